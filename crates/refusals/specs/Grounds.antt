@@ -1,0 +1,31 @@
+-- The number and the text of each ground of refusal.
+use Prim.Native.Nat.{ℕ}
+use mathlib.Core.Path.{_≡_}
+use mathlib.Core.List.{List}
+use lib.Chars.{codes}
+use Rattle.refusals.specs.declared.Ground.{Ground}
+use Rattle.refusals.specs.declared.Ground.the-variants.{TooFewOctets, WrongDiscriminator, UnknownType, ElementPastEnd, BadElement, IncompleteSetup, BadReference, BufferTooShort, FieldOutOfRange}
+
+-- numbers below 20 come from the input
+abbrev pub numberOf : Ground → ℕ
+numberOf TooFewOctets = 1
+numberOf WrongDiscriminator = 2
+numberOf UnknownType = 3
+numberOf ElementPastEnd = 4
+numberOf BadElement = 5
+numberOf IncompleteSetup = 6
+numberOf BadReference = 7
+numberOf BufferTooShort = 9
+numberOf FieldOutOfRange = 10
+
+-- what a text says where it names the ground
+abbrev pub Says : Ground → List ℕ → Type 0
+Says TooFewOctets text = text ≡ codes "fewer than five octets"
+Says WrongDiscriminator text = text ≡ codes "octets 0 and 1 are not 08 02"
+Says UnknownType text = text ≡ codes "the message type is unknown"
+Says ElementPastEnd text = text ≡ codes "an element runs past the end"
+Says BadElement text = text ≡ codes "an element breaks its layout"
+Says IncompleteSetup text = text ≡ codes "SETUP without channel or called number"
+Says BadReference text = text ≡ codes "call reference 0, or SETUP with flag 1"
+Says BufferTooShort text = text ≡ codes "the buffer is too short"
+Says FieldOutOfRange text = text ≡ codes "a field to be written is out of its range"
