@@ -1,0 +1,5 @@
+pub mod Types
+pub mod Elements
+pub mod Reading
+pub mod Writing
+pub mod Laws
