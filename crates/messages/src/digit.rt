@@ -3,7 +3,7 @@ ghost use mathlib.Core.Path.{_≡_};
 ghost use Rattle.messages.specs.Elements.{isDigit, allDigits};
 
 /// Whether an octet is one of 0 to 9, * and # in ASCII.
-pub fn is_digit(octet: u8) -> bool
+fn is_digit(octet: u8) -> bool
     ensures a_digit { λ r. ⌜ r ≡ isDigit octet ⌝ }
 {
     matches!(octet, b'0'..=b'9' | b'*' | b'#')

@@ -1,11 +1,11 @@
 //! QSIG messages as records, the octet layout as definitions (in specs/), and the laws of that layout.
+mod complete;
 mod digit;
 mod kind;
 mod laws;
 mod record;
 
 pub use digit::all_digits;
-pub use digit::is_digit;
 pub use kind::MessageType;
 pub use laws::layout_examples_stand;
 pub use laws::round_trip_stands;

@@ -1,5 +1,7 @@
 -- What the reader hands out, as values: the octets that a reference shows in the place of the reference.
 use mathlib.Core.List.{List}
+use mathlib.Core.Path.{_≡_}
+use lib.ListN.{length, take, drop}
 use Prim.Native.Nat.{ℕ}
 use Rattle.std.specs.Options.{mapped}
 use Rattle.std.specs.declared.option.Option.{Option}
@@ -31,3 +33,8 @@ seenElements e =
 abbrev pub seenMessage : Result (Message Part) Misread → Result (Message Digits) Misread
 seenMessage (Ok m) = Ok (record { reference = m .reference; kind = m .kind; elements = seenElements (m .elements) })
 seenMessage (Err e) = Err e
+
+-- a part that is handed out is that part of the octets that its place says
+abbrev pub PartOf : List ℕ → Option Part → Type 0
+PartOf octets None = Unit {0}
+PartOf octets (Some p) = p .octets .now ≡ take (length (p .octets .now)) (drop (p .place) octets)

@@ -1,4 +1,6 @@
 ghost use mathlib.Core.Path.{_≡_};
+ghost use lib.ListN.{drop};
+ghost use Rattle.std.specs.Vec.{made};
 ghost use Rattle.messages.specs.Reading.{headed, badReference};
 ghost use Rattle.reader.specs.Seen.{seenHeader};
 
@@ -23,6 +25,7 @@ fn is_bad(reference: CallReference, kind: MessageType) -> bool
 
 pub fn read_header(octets: &[u8]) -> Result<Header<'_>, Misread>
     ensures the_five_octets { λ r. ⌜ seenHeader r ≡ headed (now (octets .entry)) ⌝ }
+    ensures the_rest { λ r. ⌜ made r (λ h. now (h .elements) ≡ drop 5 (now (octets .entry))) ⌝ }
 {
     let [discriminator, length, high, low, code, elements @ ..] = octets else {
         return Err(Misread { ground: Ground::TooFewOctets, place: octets.len() });

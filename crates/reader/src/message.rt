@@ -1,10 +1,8 @@
 ghost use mathlib.Core.Path.{_≡_};
-ghost use lib.ListN.{length, take, drop};
-ghost use Rattle.std.specs.Slices.{found};
 ghost use Rattle.std.specs.Vec.{made};
 ghost use Rattle.messages.specs.Elements.{bare};
-ghost use Rattle.messages.specs.Reading.{gathered, decoded, lacking};
-ghost use Rattle.reader.specs.Seen.{seenElements, seenMessage};
+ghost use Rattle.messages.specs.Reading.{gathered, decoded};
+ghost use Rattle.reader.specs.Seen.{seenMessage, PartOf};
 ghost use Rattle.reader.specs.Items.{seenNoted};
 
 use crate::element::Reader;
@@ -12,7 +10,6 @@ use crate::header::read_header;
 use crate::noting::note;
 use messages::Elements;
 use messages::Message;
-use messages::MessageType;
 use messages::Misread;
 use messages::Part;
 use refusals::Ground;
@@ -28,25 +25,14 @@ fn read_elements(part: &[u8]) -> Result<Elements<Part<'_>>, Misread>
     Ok(seen)
 }
 
-fn is_lacking(kind: MessageType, elements: Elements<Part<'_>>) -> bool
-    ensures setup_without_channel_or_number { λ r. ⌜ r ≡ lacking kind (elements .entry) ⌝ }
-{
-    if !kind.is_setup() {
-        return false;
-    }
-    match (elements.channel, elements.digits) {
-        (Some(_), Some(_)) => false,
-        _ => true,
-    }
-}
-
 /// The message that the octets are, or why they are none and where.
 pub fn read(octets: &[u8]) -> Result<Message<Part<'_>>, Misread>
     ensures exactly_by_the_layout { λ r. ⌜ seenMessage r ≡ decoded (now (octets .entry)) ⌝ }
+    ensures digits_are_that_part { λ r. ⌜ made r (λ m. PartOf (now (octets .entry)) (m .elements .digits)) ⌝ }
 {
     let header = read_header(octets)?;
     let elements = read_elements(header.elements)?;
-    if is_lacking(header.kind, elements) {
+    if elements.lack_for(header.kind) {
         return Err(Misread { ground: Ground::IncompleteSetup, place: octets.len() });
     }
     Ok(Message { reference: header.reference, kind: header.kind, elements })
