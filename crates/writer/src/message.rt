@@ -3,6 +3,7 @@ ghost use mathlib.Core.List.{_++_};
 ghost use mathlib.Core.Path.{_≡_};
 ghost use Prim.Native.Nat.{_≤_};
 ghost use lib.ListN.{length, drop};
+ghost use Rattle.std.specs.Vec.{made};
 ghost use Rattle.messages.specs.Writing.{encoded, causeFits, channelFits, progressFits, digitsFit, writes, bufferAfter};
 ghost use Rattle.writer.specs.Values.{valuesOf, values, sizes};
 
@@ -44,6 +45,7 @@ fn put_message(buffer: &mut [u8], message: Message<&[u8]>) -> usize
 /// octet is written, so a refusal leaves the buffer as it was.
 pub fn write(buffer: &mut [u8], message: Message<&[u8]>) -> Result<usize, Ground>
     ensures size_or_first_ground { λ r. ⌜ r ≡ writes (length (now (buffer .entry))) (values (message .entry)) ⌝ }
+    ensures within_the_buffer { λ r. ⌜ made r (λ n. n ≤ length (now (buffer .entry))) ⌝ }
     ensures buffer_holds_the_message_or_all_as_it_was { λ r. ⌜ now (buffer .exit) ≡ bufferAfter (now (buffer .entry)) (values (message .entry)) r ⌝ }
 {
     if !all_fit(message) {
