@@ -20,7 +20,7 @@ impl Seats {
     }
 
     /// The channel that a place holds; a place from 64 on holds none.
-    pub fn holder(&self, place: usize) -> Option<u8>
+    pub fn holds(&self, place: usize) -> Option<u8>
         ensures answers_the_channel_held { λ r. ⌜ r ≡ held (now (self .entry) .places) place ⌝ }
     {
         if place < 64 { self.places[place] } else { None }

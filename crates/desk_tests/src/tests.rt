@@ -22,8 +22,8 @@ fn a_wish_over_a_link() -> Result<(), Fail> {
     check_eq(occupy(&mut trunk, &mut seats, 3, 16, false), Some(30)).note("preferred and unknown")?;
     check_eq(vacate(&mut trunk, &mut seats, 0), Some(7))?;
     check(trunk.is_idle(7))?;
-    check_eq(seats.holder(0), None)?;
-    check_eq(seats.holder(3), Some(30))
+    check_eq(seats.holds(0), None)?;
+    check_eq(seats.holds(3), Some(30))
 }
 
 #[test]
@@ -48,10 +48,10 @@ fn places_that_are_not_free() -> Result<(), Fail> {
     check_eq(occupy(&mut trunk, &mut seats, 63, 1, true), Some(1)).note("the last place")?;
     check_eq(occupy(&mut trunk, &mut seats, 63, 2, true), None).note("taken")?;
     check(trunk.is_idle(2)).note("released again")?;
-    check_eq(seats.holder(63), Some(1)).note("as it was")?;
+    check_eq(seats.holds(63), Some(1)).note("as it was")?;
     check_eq(occupy(&mut trunk, &mut seats, 64, 2, true), None).note("no such place")?;
     check(trunk.is_idle(2))?;
-    check_eq(seats.holder(64), None)?;
+    check_eq(seats.holds(64), None)?;
     check_eq(vacate(&mut trunk, &mut seats, 64), None)?;
     check_eq(vacate(&mut trunk, &mut seats, 5), None).note("a free place")
 }

@@ -8,6 +8,7 @@ use lib.ListN.{length, getD}
 use Rattle.std.specs.declared.option.Option.{Option}
 use Rattle.std.specs.declared.option.Option.the-variants.{Some, None}
 
+-- 1 for yes, 0 for no
 abbrev pub once : Bool → ℕ
 once b = cond b 1 0
 
@@ -16,6 +17,7 @@ abbrev pub times : ℕ → List ℕ → ℕ
 times c [] = 0
 times c (x ∷ xs) = once (eqb x c) + times c xs
 
+-- the first of a list, if there is one
 abbrev pub first : List ℕ → Option ℕ
 first [] = None
 first (x ∷ xs) = Some x

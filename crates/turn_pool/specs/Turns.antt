@@ -10,6 +10,7 @@ use Rattle.turn_pool.specs.declared.turns.TurnPool.{TurnPool}
 abbrev pub idleOrder : TurnPool → List ℕ
 idleOrder pool = items (pool .idle)
 
+-- the seized channels
 abbrev pub seizedOnes : TurnPool → List ℕ
 seizedOnes pool = items (pool .seized)
 

@@ -44,7 +44,7 @@ fn are_different(list: &[u8]) -> bool
 }
 
 /// Is this a list of 1 to 64 different channel numbers?
-pub fn fits(list: &[u8]) -> bool
+pub(crate) fn fits(list: &[u8]) -> bool
     ensures exactly_where_it_fits { λ r. ⌜ When r (Fits (now (list .entry))) (Fits (now (list .entry)) → ⊥) ⌝ }
 {
     if is_channel_count(list.len()) {

@@ -10,7 +10,7 @@ ghost use Rattle.turn_pool.specs.Moves.{ActsAsSeizure, ActsAsRelease};
 use crate::row::Row;
 
 /// Takes a channel out of one row, if it stands there, and puts it at the end of the other.
-pub fn move_channel(from: &mut Row, to: &mut Row, c: u8) -> bool
+pub(crate) fn move_channel(from: &mut Row, to: &mut Row, c: u8) -> bool
     requires room { ⌜ length (items (now from)) + length (items (now to)) ≤ 64 ⌝ }
     ensures yes_exactly_if_it_stood_there { λ r. ⌜ r ≡ ltb 0 (times c (items (now (from .entry)))) ⌝ }
     ensures the_others_stay_in_order { λ _. ⌜ items (now (from .exit)) ≡ without c (items (now (from .entry))) ⌝ }

@@ -4,7 +4,7 @@ ghost use lib.ListN.{length};
 
 /// At most 64 channels in a row.
 #[derive(Drop)]
-pub struct Row {
+pub(crate) struct Row {
     pub(crate) places: [u8; 64],
     pub(crate) count: usize,
     ghost whole: { length places ≡ 64 },

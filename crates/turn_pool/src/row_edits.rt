@@ -9,7 +9,7 @@ ghost use Rattle.turn_pool.specs.Rows.{items};
 use crate::row::Row;
 
 /// The first place of a channel among others, if it stands there.
-pub fn place_of(channels: &[u8], c: u8) -> Option<usize>
+pub(crate) fn place_of(channels: &[u8], c: u8) -> Option<usize>
     ensures first_place { λ r. ⌜ FirstAt r c (now (channels .entry)) ⌝ }
 {
     for (place, channel) in channels.iter().enumerate() {
@@ -39,7 +39,7 @@ fn close_up(places: &mut [u8], place: usize, end: usize)
 
 impl Row {
     /// The channels of a list in its order.
-    pub fn of(list: &[u8]) -> Row
+    pub(crate) fn of(list: &[u8]) -> Row
         requires few { ⌜ length (now list) ≤ 64 ⌝ }
         ensures holds_the_list { λ r. ⌜ items r ≡ now (list .entry) ⌝ }
     {
@@ -52,7 +52,7 @@ impl Row {
     }
 
     /// Does the channel stand in the row?
-    pub fn contains(&self, c: u8) -> bool
+    pub(crate) fn contains(&self, c: u8) -> bool
         ensures yes_exactly_if_it_stands_there { λ r. ⌜ r ≡ ltb 0 (times c (items (now (self .entry)))) ⌝ }
     {
         match place_of(&self.places[..self.count], c) {
@@ -62,7 +62,7 @@ impl Row {
     }
 
     /// The first channel of the row.
-    pub fn first(&self) -> Option<u8>
+    pub(crate) fn first(&self) -> Option<u8>
         ensures the_first { λ r. ⌜ r ≡ first (items (now (self .entry))) ⌝ }
     {
         if self.count == 0 {
@@ -73,7 +73,7 @@ impl Row {
     }
 
     /// Puts a channel at the end of the row.
-    pub fn push(&mut self, c: u8)
+    pub(crate) fn push(&mut self, c: u8)
         requires room { ⌜ length (items (now self)) < 64 ⌝ }
         ensures at_the_end { λ _. ⌜ items (now (self .exit)) ≡ items (now (self .entry)) ++ c ∷ [] ⌝ }
     {
@@ -82,6 +82,7 @@ impl Row {
         self.count = end + 1;
     }
 
+    // Takes out what stands at a place.
     fn remove_at(&mut self, place: usize)
         requires inside { ⌜ place < length (items (now self)) ⌝ }
         ensures the_others_close_up { λ _. ⌜ items (now (self .exit)) ≡ removed (items (now (self .entry))) place ⌝ }
@@ -94,7 +95,7 @@ impl Row {
     }
 
     /// Takes a channel out of the row, if it stands there.
-    pub fn remove(&mut self, c: u8) -> bool
+    pub(crate) fn remove(&mut self, c: u8) -> bool
         ensures yes_exactly_if_it_stood_there { λ r. ⌜ r ≡ ltb 0 (times c (items (now (self .entry)))) ⌝ }
         ensures the_others_stay_in_order { λ _. ⌜ items (now (self .exit)) ≡ without c (items (now (self .entry))) ⌝ }
     {
