@@ -14,6 +14,7 @@ pub enum Ground {
     BadReference,
     BufferTooShort,
     FieldOutOfRange,
+    SettingOutOfRange,
 }
 
 impl Ground {
@@ -31,6 +32,7 @@ impl Ground {
             Ground::BadReference => 7,
             Ground::BufferTooShort => 9,
             Ground::FieldOutOfRange => 10,
+            Ground::SettingOutOfRange => 11,
         }
     }
 
@@ -48,6 +50,7 @@ impl Ground {
             Ground::BadReference => "call reference 0, or SETUP with flag 1",
             Ground::BufferTooShort => "the buffer is too short",
             Ground::FieldOutOfRange => "a field to be written is out of its range",
+            Ground::SettingOutOfRange => "a setting is out of its range",
         }
     }
 }

@@ -14,3 +14,6 @@ returns-in-WrongDiscriminator c = record { text-of-the-ground = said _ (c .in-Wr
 
 pub returns-in-UnknownType : need.returns-in-UnknownType
 returns-in-UnknownType c = record { text-of-the-ground = said _ (c .in-UnknownType .is) refl }
+
+pub returns-in-SettingOutOfRange : need.returns-in-SettingOutOfRange
+returns-in-SettingOutOfRange c = record { text-of-the-ground = said _ (c .in-SettingOutOfRange .is) refl }

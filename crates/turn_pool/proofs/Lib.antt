@@ -1,0 +1,4 @@
+pub mod Counts
+pub mod Listings
+pub mod Rows
+pub mod Transfers

@@ -1,0 +1,5 @@
+pub mod Lists
+pub mod Rows
+pub mod Listing
+pub mod Moves
+pub mod Turns
