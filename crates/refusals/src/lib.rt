@@ -14,6 +14,7 @@ pub enum Ground {
     BadReference,
     BufferTooShort,
     FieldOutOfRange,
+    QueueFull,
 }
 
 impl Ground {
@@ -31,6 +32,7 @@ impl Ground {
             Ground::BadReference => 7,
             Ground::BufferTooShort => 9,
             Ground::FieldOutOfRange => 10,
+            Ground::QueueFull => 23,
         }
     }
 
@@ -48,6 +50,7 @@ impl Ground {
             Ground::BadReference => "call reference 0, or SETUP with flag 1",
             Ground::BufferTooShort => "the buffer is too short",
             Ground::FieldOutOfRange => "a field to be written is out of its range",
+            Ground::QueueFull => "not enough free places in an outgoing queue",
         }
     }
 }
