@@ -81,11 +81,17 @@ impl<'a, M: Drop> Queue<'a, M> {
         match few {
             Few::Zero => {}
             Few::One(a) => self.add(a),
-            Few::Two(a, b) => {
-                self.add(a);
-                self.add(b);
-            }
+            Few::Two(a, b) => self.add_two(a, b),
         }
+    }
+
+    fn add_two(&mut self, first: M, second: M)
+        requires { ⌜ 2 ≤ free (now self) ⌝ }
+        ensures room_stays { λ _. ⌜ room (now (self .exit)) ≡ room (now (self .entry)) ⌝ }
+        ensures wait_last { λ _. ⌜ waiting (now (self .exit)) ≡ waiting (now (self .entry)) ++ first ∷ second ∷ [] ⌝ }
+    {
+        self.add(first);
+        self.add(second);
     }
 
     fn is_empty(&self) -> bool
