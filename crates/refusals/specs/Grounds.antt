@@ -4,9 +4,9 @@ use mathlib.Core.Path.{_≡_}
 use mathlib.Core.List.{List}
 use lib.Chars.{codes}
 use Rattle.refusals.specs.declared.Ground.{Ground}
-use Rattle.refusals.specs.declared.Ground.the-variants.{TooFewOctets, WrongDiscriminator, UnknownType, ElementPastEnd, BadElement, IncompleteSetup, BadReference, BufferTooShort, FieldOutOfRange, SettingOutOfRange}
+use Rattle.refusals.specs.declared.Ground.the-variants.{TooFewOctets, WrongDiscriminator, UnknownType, ElementPastEnd, BadElement, IncompleteSetup, BadReference, BufferTooShort, FieldOutOfRange, SettingOutOfRange, QueueFull}
 
--- numbers below 20 come from the input
+-- numbers below 20 come from the input, those from 20 on from the state
 abbrev pub numberOf : Ground → ℕ
 numberOf TooFewOctets = 1
 numberOf WrongDiscriminator = 2
@@ -18,6 +18,7 @@ numberOf BadReference = 7
 numberOf BufferTooShort = 9
 numberOf FieldOutOfRange = 10
 numberOf SettingOutOfRange = 11
+numberOf QueueFull = 23
 
 -- what a text says where it names the ground
 abbrev pub Says : Ground → List ℕ → Type 0
@@ -31,3 +32,4 @@ Says BadReference text = text ≡ codes "call reference 0, or SETUP with flag 1"
 Says BufferTooShort text = text ≡ codes "the buffer is too short"
 Says FieldOutOfRange text = text ≡ codes "a field to be written is out of its range"
 Says SettingOutOfRange text = text ≡ codes "a setting is out of its range"
+Says QueueFull text = text ≡ codes "not enough free places in an outgoing queue"

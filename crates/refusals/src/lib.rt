@@ -15,6 +15,7 @@ pub enum Ground {
     BufferTooShort,
     FieldOutOfRange,
     SettingOutOfRange,
+    QueueFull,
 }
 
 impl Ground {
@@ -33,6 +34,7 @@ impl Ground {
             Ground::BufferTooShort => 9,
             Ground::FieldOutOfRange => 10,
             Ground::SettingOutOfRange => 11,
+            Ground::QueueFull => 23,
         }
     }
 
@@ -51,6 +53,7 @@ impl Ground {
             Ground::BufferTooShort => "the buffer is too short",
             Ground::FieldOutOfRange => "a field to be written is out of its range",
             Ground::SettingOutOfRange => "a setting is out of its range",
+            Ground::QueueFull => "not enough free places in an outgoing queue",
         }
     }
 }
