@@ -2,6 +2,5 @@
 
 #[cfg(test)]
 mod reading;
-
 #[cfg(test)]
 mod writing;

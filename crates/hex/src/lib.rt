@@ -6,7 +6,6 @@ ghost use Prim.Native.Nat.{_<_};
 ghost use Rattle.std.specs.Slices.{found};
 ghost use Rattle.std.specs.Vec.{made};
 ghost use Rattle.hex.specs.Text.{isBlank, digitOf, octetsIn};
-
 use std::alloc::AllocError;
 use std::alloc::Global;
 

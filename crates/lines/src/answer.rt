@@ -1,3 +1,6 @@
+ghost use mathlib.Core.Path.{_≡_};
+ghost use Rattle.std.specs.Vec.{made};
+ghost use Rattle.lines.specs.Verdicts.{isRemark, verdict, verdictOn};
 use crate::shown::MessageText;
 use crate::shown::MessageTextDisplay;
 use crate::shown::MisreadText;
@@ -25,7 +28,9 @@ pub enum Answer {
 }
 
 /// Whether a line is a comment or empty.
-pub fn is_remark(line: &[u8]) -> bool {
+pub fn is_remark(line: &[u8]) -> bool
+    ensures empty_or_a_comment { λ r. ⌜ r ≡ isRemark (now (line .entry)) ⌝ }
+{
     match line {
         [] => true,
         [first, ..] => *first == b'#',
@@ -38,17 +43,29 @@ fn to_write<'a>(message: Message<Part<'a>>) -> Message<&'a [u8]> {
         Some(part) => Some(part.octets),
         None => None,
     };
-    let elements = Elements { complete: read.complete, cause: read.cause, channel: read.channel, progress: read.progress, digits };
-    Message { reference: message.reference, kind: message.kind, elements }
+    let elements = Elements {
+        complete: read.complete,
+        cause: read.cause,
+        channel: read.channel,
+        progress: read.progress,
+        digits,
+    };
+    Message {
+        reference: message.reference,
+        kind: message.kind,
+        elements,
+    }
 }
 
 /// The line of a message: its fields, and its octets as they are written from those fields.
-pub fn told_of(heap: Global, message: Message<Part<'_>>) -> Result<String, AllocError> {
+fn told_of(heap: Global, message: Message<Part<'_>>) -> Result<String, AllocError> {
     let text = MessageText { message };
     let mut buffer = [0u8; ROOM];
     match write(&mut buffer, to_write(message)) {
         Ok(size) => {
-            let octets = OctetsText { octets: &buffer[0..size] };
+            let octets = OctetsText {
+                octets: &buffer[0..size],
+            };
             format!(heap, "= {text} octets={octets}")
         }
         Err(ground) => {
@@ -59,7 +76,9 @@ pub fn told_of(heap: Global, message: Message<Part<'_>>) -> Result<String, Alloc
 }
 
 /// What a line of hexadecimal octets gets.
-pub fn answer_to(heap: Global, line: &[u8]) -> Result<Answer, AllocError> {
+pub fn answer_to(heap: Global, line: &[u8]) -> Result<Answer, AllocError>
+    ensures message_or_refused_as_it_reads { λ r. ⌜ made r (λ answer. verdict answer ≡ verdictOn (now (line .entry))) ⌝ }
+{
     let Some(octets) = octets_in(heap, line)? else {
         return Ok(Answer::NotHex);
     };

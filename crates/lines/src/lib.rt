@@ -5,7 +5,6 @@ mod shown;
 pub use answer::Answer;
 pub use answer::answer_to;
 pub use answer::is_remark;
-pub use answer::told_of;
 pub use shown::MessageText;
 pub use shown::MessageTextDisplay;
 pub use shown::MisreadText;

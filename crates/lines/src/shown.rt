@@ -67,7 +67,11 @@ pub impl fmt::Display for MessageText<'_> as MessageTextDisplay {
         }
         if let Some(channel) = elements.channel {
             let number = channel.number;
-            let wish = if channel.exclusive { "exclusive" } else { "preferred" };
+            let wish = if channel.exclusive {
+                "exclusive"
+            } else {
+                "preferred"
+            };
             write!(f, " channel={number}/{wish}")?;
         }
         if let Some(description) = elements.progress {

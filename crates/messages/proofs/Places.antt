@@ -97,9 +97,9 @@ gathered-inside octets zero place (x ∷ xs) s h i =
     tested P (leb 128 x) _ _
     (followed P (noted x place [] s) (λ m. gathered 0 (place + 1) xs m) P (noted-inside octets x place [] s i tt) (λ m j. gathered-inside octets 0 (place + 1) xs m next j))
     (tested P (ltb (length xs) (getD xs 0 0 + 1)) _ _ (refused P (record { ground = ElementPastEnd; place = place }))
-      (followed P (noted x place (take (getD xs 0 0) (drop 1 xs)) s) (λ m. gathered (getD xs 0 0 + 1) (place + 1) xs m) P
-        (noted-inside octets x place (take (getD xs 0 0) (drop 1 xs)) s i (brought octets place (getD xs 0 0) (drop 1 xs) (later octets place 2 (x ∷ xs) h)))
-        (λ m j. gathered-inside octets (getD xs 0 0 + 1) (place + 1) xs m next j)))
+    (followed P (noted x place (take (getD xs 0 0) (drop 1 xs)) s) (λ m. gathered (getD xs 0 0 + 1) (place + 1) xs m) P
+    (noted-inside octets x place (take (getD xs 0 0) (drop 1 xs)) s i (brought octets place (getD xs 0 0) (drop 1 xs) (later octets place 2 (x ∷ xs) h)))
+    (λ m j. gathered-inside octets (getD xs 0 0 + 1) (place + 1) xs m next j)))
 
 -- the digits of a message are that part of its octets
 pub read-inside : (octets : List ℕ) (e : Elements Digits) → gathered 0 5 (drop 5 octets) bare ≡ Ok e → Inside octets (e .digits)

@@ -1,6 +1,5 @@
 ghost use mathlib.Core.Path.{_≡_};
 ghost use Rattle.messages.specs.Reading.{lacking};
-
 use crate::kind::MessageType;
 use crate::record::Elements;
 

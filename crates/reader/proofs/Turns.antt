@@ -73,19 +73,19 @@ turn-whole xs at s h a p =
     let f : at + 1 + (getD xs (at + 1) 0 + 1) ≡ at + (2 + getD xs (at + 1) 0) = omega arith in
     at-drop-more (λ ys. gathered 0 (5 + at) ys s) xs at 0 h
     ∙ simp (a, z, n, b, t, u, l)
-      (alike _
-        (λ m. gathered (getD xs (at + 1) 0 + 1) (5 + at + 1) (drop (at + 1) xs) m)
-        (λ m. gathered 0 (5 + (at + (2 + getD xs (at + 1) 0))) (drop (at + (2 + getD xs (at + 1) 0)) xs) m)
-        (λ m. skipped (getD xs (at + 1) 0 + 1) (5 + at + 1) (drop (at + 1) xs) m d ∙ simp (drop-drop, e, f)))
+    (alike _
+    (λ m. gathered (getD xs (at + 1) 0 + 1) (5 + at + 1) (drop (at + 1) xs) m)
+    (λ m. gathered 0 (5 + (at + (2 + getD xs (at + 1) 0))) (drop (at + (2 + getD xs (at + 1) 0)) xs) m)
+    (λ m. skipped (getD xs (at + 1) 0 + 1) (5 + at + 1) (drop (at + 1) xs) m d ∙ simp (drop-drop, e, f)))
 
 turn-more : (xs : List ℕ) (at : ℕ) (s : Elements Digits) → at < length xs → gathered 0 (5 + at) (drop at xs) s ≡ continued xs at s (itemAt xs at)
 turn-more xs at s h =
     ⊎-elim
     (λ a. turn-alone xs at s h (a .0))
     (λ a. ⊎-elim
-      (λ p. turn-whole xs at s h (a .0) (p .1))
-      (λ p. turn-past xs at s h (a .0) (p .1))
-      (leb-tells (at + 2 + getD xs (at + 1) 0) (length xs)))
+    (λ p. turn-whole xs at s h (a .0) (p .1))
+    (λ p. turn-past xs at s h (a .0) (p .1))
+    (leb-tells (at + 2 + getD xs (at + 1) 0) (length xs)))
     (leb-tells 128 (getD xs at 0))
 
 turn-end : (xs : List ℕ) (at : ℕ) (s : Elements Digits) → length xs ≤ at → at ≤ length xs → gathered 0 (5 + at) (drop at xs) s ≡ continued xs at s (itemAt xs at)

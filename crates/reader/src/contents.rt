@@ -3,7 +3,6 @@ ghost use mathlib.Core.Path.{_≡_};
 ghost use Prim.Native.Nat.{_+_, _^_, _<_};
 ghost use Rattle.messages.specs.Elements.{causeOf, channelOf, progressOf, digitsOf};
 ghost use Rattle.reader.specs.Seen.{seenDigits};
-
 use messages::Cause;
 use messages::Channel;
 use messages::Part;
@@ -18,7 +17,10 @@ pub fn cause_of(contents: &[u8]) -> Option<Cause>
     if *location < 0x80 || *value < 0x80 {
         return None;
     }
-    Some(Cause { value: *value % 0x80, location: *location % 0x10 })
+    Some(Cause {
+        value: *value % 0x80,
+        location: *location % 0x10,
+    })
 }
 
 pub fn channel_of(contents: &[u8]) -> Option<Channel>
@@ -33,7 +35,10 @@ pub fn channel_of(contents: &[u8]) -> Option<Channel>
     if *timeslot != 0x83 || *number < 0x81 {
         return None;
     }
-    Some(Channel { number: *number % 0x80, exclusive: *wish == 0xa9 })
+    Some(Channel {
+        number: *number % 0x80,
+        exclusive: *wish == 0xa9,
+    })
 }
 
 pub fn progress_of(contents: &[u8]) -> Option<u8>
@@ -62,5 +67,8 @@ pub fn digits_of(place: usize, contents: &[u8]) -> Option<Part<'_>>
     if !all_digits(digits) {
         return None;
     }
-    Some(Part { place: place + 3, octets: digits })
+    Some(Part {
+        place: place + 3,
+        octets: digits,
+    })
 }

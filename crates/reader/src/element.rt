@@ -4,7 +4,6 @@ ghost use lib.ListN.{length};
 ghost use Rattle.std.specs.Slices.{found};
 ghost use Rattle.std.specs.Vec.{made};
 ghost use Rattle.reader.specs.Items.{octetsOf, seenItem, itemAt, placeAfter};
-
 use messages::Misread;
 use refusals::Ground;
 
@@ -45,16 +44,30 @@ impl<'a> Reader<'a> {
         let place = HEADER + at;
         if id >= 0x80 {
             self.at = at + 1;
-            return Ok(Some(Element { id, place, contents: &octets[at..at] }));
+            return Ok(Some(Element {
+                id,
+                place,
+                contents: &octets[at..at],
+            }));
         }
         if octets.len() - at < 2 {
-            return Err(Misread { ground: Ground::ElementPastEnd, place });
+            return Err(Misread {
+                ground: Ground::ElementPastEnd,
+                place,
+            });
         }
         let count = octets[at + 1] as usize;
         if octets.len() - at - 2 < count {
-            return Err(Misread { ground: Ground::ElementPastEnd, place });
+            return Err(Misread {
+                ground: Ground::ElementPastEnd,
+                place,
+            });
         }
         self.at = at + 2 + count;
-        Ok(Some(Element { id, place, contents: &octets[at + 2..at + 2 + count] }))
+        Ok(Some(Element {
+            id,
+            place,
+            contents: &octets[at + 2..at + 2 + count],
+        }))
     }
 }

@@ -3,7 +3,6 @@ ghost use lib.ListN.{drop};
 ghost use Rattle.std.specs.Vec.{made};
 ghost use Rattle.messages.specs.Reading.{headed, badReference};
 ghost use Rattle.reader.specs.Seen.{seenHeader};
-
 use messages::CallReference;
 use messages::MessageType;
 use messages::Misread;
@@ -28,20 +27,42 @@ pub fn read_header(octets: &[u8]) -> Result<Header<'_>, Misread>
     ensures the_rest { λ r. ⌜ made r (λ h. now (h .elements) ≡ drop 5 (now (octets .entry))) ⌝ }
 {
     let [discriminator, length, high, low, code, elements @ ..] = octets else {
-        return Err(Misread { ground: Ground::TooFewOctets, place: octets.len() });
+        return Err(Misread {
+            ground: Ground::TooFewOctets,
+            place: octets.len(),
+        });
     };
     if *discriminator != 0x08 {
-        return Err(Misread { ground: Ground::WrongDiscriminator, place: 0 });
+        return Err(Misread {
+            ground: Ground::WrongDiscriminator,
+            place: 0,
+        });
     }
     if *length != 0x02 {
-        return Err(Misread { ground: Ground::WrongDiscriminator, place: 1 });
+        return Err(Misread {
+            ground: Ground::WrongDiscriminator,
+            place: 1,
+        });
     }
     let Some(kind) = MessageType::of(*code) else {
-        return Err(Misread { ground: Ground::UnknownType, place: 4 });
+        return Err(Misread {
+            ground: Ground::UnknownType,
+            place: 4,
+        });
     };
-    let reference = CallReference { flag: *high >= 0x80, number: (*high % 0x80) as u16 * 256 + *low as u16 };
+    let reference = CallReference {
+        flag: *high >= 0x80,
+        number: (*high % 0x80) as u16 * 256 + *low as u16,
+    };
     if is_bad(reference, kind) {
-        return Err(Misread { ground: Ground::BadReference, place: 2 });
+        return Err(Misread {
+            ground: Ground::BadReference,
+            place: 2,
+        });
     }
-    Ok(Header { reference, kind, elements })
+    Ok(Header {
+        reference,
+        kind,
+        elements,
+    })
 }

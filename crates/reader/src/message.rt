@@ -4,7 +4,6 @@ ghost use Rattle.messages.specs.Elements.{bare};
 ghost use Rattle.messages.specs.Reading.{gathered, decoded};
 ghost use Rattle.reader.specs.Seen.{seenMessage, PartOf};
 ghost use Rattle.reader.specs.Items.{seenNoted};
-
 use crate::element::Reader;
 use crate::header::read_header;
 use crate::noting::note;
@@ -17,8 +16,17 @@ use refusals::Ground;
 fn read_elements(part: &[u8]) -> Result<Elements<Part<'_>>, Misread>
     ensures gathered_from_the_left { λ r. ⌜ seenNoted r ≡ gathered 0 5 (now (part .entry)) bare ⌝ }
 {
-    let mut reader = Reader { elements: part, at: 0 };
-    let mut seen = Elements { complete: false, cause: None, channel: None, progress: None, digits: None };
+    let mut reader = Reader {
+        elements: part,
+        at: 0,
+    };
+    let mut seen = Elements {
+        complete: false,
+        cause: None,
+        channel: None,
+        progress: None,
+        digits: None,
+    };
     while let Some(element) = reader.next()? {
         seen = note(seen, element)?;
     }
@@ -33,7 +41,14 @@ pub fn read(octets: &[u8]) -> Result<Message<Part<'_>>, Misread>
     let header = read_header(octets)?;
     let elements = read_elements(header.elements)?;
     if elements.lack_for(header.kind) {
-        return Err(Misread { ground: Ground::IncompleteSetup, place: octets.len() });
+        return Err(Misread {
+            ground: Ground::IncompleteSetup,
+            place: octets.len(),
+        });
     }
-    Ok(Message { reference: header.reference, kind: header.kind, elements })
+    Ok(Message {
+        reference: header.reference,
+        kind: header.kind,
+        elements,
+    })
 }

@@ -8,7 +8,6 @@ ghost use lib.ListN.{length, set, drop};
 ghost use Rattle.std.specs.Results.{isOk};
 ghost use Rattle.messages.specs.Writing.{element};
 ghost use Rattle.writer.specs.Element.{roomFor, ShortOnly, elementBuffer, elementAnswer};
-
 use refusals::Ground;
 
 /// The most contents that a length octet can count.

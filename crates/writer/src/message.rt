@@ -6,7 +6,6 @@ ghost use lib.ListN.{length, drop};
 ghost use Rattle.std.specs.Vec.{made};
 ghost use Rattle.messages.specs.Writing.{encoded, causeFits, channelFits, progressFits, digitsFit, writes, bufferAfter};
 ghost use Rattle.writer.specs.Values.{valuesOf, values, sizes};
-
 use crate::parts::put_bearer;
 use crate::parts::put_cause;
 use crate::parts::put_channel;

@@ -6,7 +6,6 @@ ghost use lib.ListN.{length, drop};
 ghost use mathlib.Core.Bool.{true};
 ghost use Rattle.messages.specs.Writing.{element, headOctets, completeOctets, bearerOctets, causeOctets, channelOctets, progressOctets, digitsOctets, causeFits, channelFits, progressFits, digitsFit};
 ghost use Rattle.writer.specs.Values.{valuesOf};
-
 use crate::element::write_element;
 use messages::CallReference;
 use messages::Cause;

@@ -2,7 +2,6 @@
 ghost use mathlib.Core.Path.{_≡_};
 ghost use Rattle.messages.specs.Writing.{referenceFits, causeFits, channelFits, progressFits, digitsFit, fits};
 ghost use Rattle.writer.specs.Values.{valuesOf, values};
-
 use messages::CallReference;
 use messages::Cause;
 use messages::Channel;

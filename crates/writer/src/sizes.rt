@@ -4,7 +4,6 @@ ghost use Prim.Native.Nat.{_+_, _^_, _≤_};
 ghost use lib.ListN.{length};
 ghost use Rattle.messages.specs.Writing.{completeOctets, bearerOctets, causeOctets, channelOctets, progressOctets, digitsOctets, encoded};
 ghost use Rattle.writer.specs.Values.{valuesOf, values};
-
 use messages::Cause;
 use messages::Channel;
 use messages::Message;
@@ -68,7 +67,8 @@ fn size_of_digits(digits: Option<&[u8]>) -> usize
 pub fn size_of(message: Message<&[u8]>) -> usize
     ensures size_of_the_whole { λ r. ⌜ r ≡ length (encoded (values (message .entry))) ⌝ }
 {
-    5 + size_of_complete(message.elements.complete)
+    5
+        + size_of_complete(message.elements.complete)
         + size_of_bearer(message.kind)
         + size_of_cause(message.elements.cause)
         + size_of_channel(message.elements.channel)

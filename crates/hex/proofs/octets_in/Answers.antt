@@ -25,20 +25,24 @@ pub loop-byte-again-in-Some-pending : need.loop-byte-again-in-Some-pending
 loop-byte-again-in-Some-pending c =
     let i = c .loop-byte .inv in
     let d = c .in-Some .ensures tt .value-of-the-digit in
-    let rest = drop (c .loop-byte .byte-index) (c .args .text .now) in
-    (ap (λ items. behind items (octetsFrom None (drop (c .loop-byte .byte-index + 1) (c .args .text .now)))) (c .in-Continue-push .ensures tt .items)
-     ∙ second (vec-items (c .loop-byte .octets)) (c .args .text .now) (c .loop-byte .byte-index) (c .in-Some-pending .high) (c .in-Some .digit) (omega arith) (c .if-is-blank .ensures tt .space-or-tab) d
-     ∙ ap (λ p. behind (vec-items (c .loop-byte .octets)) (octetsFrom p rest)) (sym (c .in-Some-pending .is))
-     ∙ i .0, tt)
+    let rest = drop (c .loop-byte .byte-index) (c .args .text .now) in (
+      ap (λ items. behind items (octetsFrom None (drop (c .loop-byte .byte-index + 1) (c .args .text .now)))) (c .in-Continue-push .ensures tt .items)
+          ∙ second (vec-items (c .loop-byte .octets)) (c .args .text .now) (c .loop-byte .byte-index) (c .in-Some-pending .high) (c .in-Some .digit) (omega arith) (c .if-is-blank .ensures tt .space-or-tab) d
+          ∙ ap (λ p. behind (vec-items (c .loop-byte .octets)) (octetsFrom p rest)) (sym (c .in-Some-pending .is))
+          ∙ i .0,
+      tt,
+    )
 
 pub loop-byte-again : need.loop-byte-again
 loop-byte-again c =
     let i = c .loop-byte .inv in
     let d = c .in-Some .ensures tt .value-of-the-digit in
-    let rest = drop (c .loop-byte .byte-index) (c .args .text .now) in
-    (ap (behind (vec-items (c .loop-byte .octets))) (sym (first (c .args .text .now) (c .loop-byte .byte-index) (c .in-Some .digit) (omega arith) (c .if-is-blank .ensures tt .space-or-tab) d))
-     ∙ ap (λ p. behind (vec-items (c .loop-byte .octets)) (octetsFrom p rest)) (sym (c .in-rest-pending .is))
-     ∙ i .0, c .in-Some .ensures tt .below-sixteen)
+    let rest = drop (c .loop-byte .byte-index) (c .args .text .now) in (
+      ap (behind (vec-items (c .loop-byte .octets))) (sym (first (c .args .text .now) (c .loop-byte .byte-index) (c .in-Some .digit) (omega arith) (c .if-is-blank .ensures tt .space-or-tab) d))
+          ∙ ap (λ p. behind (vec-items (c .loop-byte .octets)) (octetsFrom p rest)) (sym (c .in-rest-pending .is))
+          ∙ i .0,
+      c .in-Some .ensures tt .below-sixteen,
+    )
 
 pub returns-in-None : need.returns-in-None
 returns-in-None c =

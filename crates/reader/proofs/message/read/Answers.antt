@@ -24,6 +24,6 @@ returns c =
     record {
       exactly-by-the-layout = search needs;
       digits-are-that-part =
-        handed-out (c .args .octets .now) (c .in-Continue-elements .elements .digits)
-        (read-inside (c .args .octets .now) (seenElements (c .in-Continue-elements .elements)) read);
+          handed-out (c .args .octets .now) (c .in-Continue-elements .elements .digits)
+          (read-inside (c .args .octets .now) (seenElements (c .in-Continue-elements .elements)) read);
     }

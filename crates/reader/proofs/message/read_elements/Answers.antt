@@ -39,7 +39,7 @@ returns-in-Break-element c =
     let i = c .loop-element .inv in
     record {
       gathered-from-the-left =
-        rw (p .1, p .2) (goes-on (seenElements (c .loop-element .seen)) (i .0) (i .1) (i .2) (Err (c .in-Break-element .field-0 .0)) (c .in-Break-element .ensures tt .element));
+          rw (p .1, p .2) (goes-on (seenElements (c .loop-element .seen)) (i .0) (i .1) (i .2) (Err (c .in-Break-element .field-0 .0)) (c .in-Break-element .ensures tt .element));
     }
 
 pub returns-in-Break-seen : need.returns-in-Break-seen
@@ -70,6 +70,6 @@ returns c =
     let i = c .loop-element .inv in
     record {
       gathered-from-the-left =
-        goes-on (seenElements (c .loop-element .seen)) (i .0) (i .1) (i .2) (Ok None)
-        (sym (ap (λ o. Ok (mapped item o)) (c .in-rest .is)) ∙ c .in-Continue-element .ensures tt .element);
+          goes-on (seenElements (c .loop-element .seen)) (i .0) (i .1) (i .2) (Ok None)
+          (sym (ap (λ o. Ok (mapped item o)) (c .in-rest .is)) ∙ c .in-Continue-element .ensures tt .element);
     }
