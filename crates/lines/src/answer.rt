@@ -12,9 +12,9 @@ use messages::Elements;
 use messages::Message;
 use messages::Part;
 use reader::read;
+use round_trip::write_checked;
 use std::alloc::AllocError;
 use std::alloc::Global;
-use writer::write;
 
 /// More octets than any message takes that is written.
 const ROOM: usize = 64;
@@ -61,7 +61,7 @@ fn to_write<'a>(message: Message<Part<'a>>) -> Message<&'a [u8]> {
 fn told_of(heap: Global, message: Message<Part<'_>>) -> Result<String, AllocError> {
     let text = MessageText { message };
     let mut buffer = [0u8; ROOM];
-    match write(&mut buffer, to_write(message)) {
+    match write_checked(&mut buffer, to_write(message)) {
         Ok(size) => {
             let octets = OctetsText {
                 octets: &buffer[0..size],

@@ -23,7 +23,7 @@ use Rattle.messages.specs.Types.{codeOf, typeOf, isSetup}
 use Rattle.messages.specs.Elements.{Digits, bare, withDigits}
 use Rattle.messages.specs.Reading.{Heading, headed, gathered, decoded, badReference, referenceOf, lacking, typed, whole, onward}
 use Rattle.messages.specs.Writing.{completeOctets, bearerOctets, causeOctets, channelOctets, progressOctets, digitsOctets, elementOctets, headOctets, encoded, referenceFits, causeFits, channelFits, progressFits, digitsFit, fits}
-use Rattle.messages.specs.Laws.{digitsPlace, asRead, RoundTrip}
+use Rattle.messages.specs.Laws.{digitsPlace, asRead, RoundTrip, LayoutExamples}
 use Rattle.messages.proofs.Passing.{seen, past-complete, past-bearer, past-cause, past-channel, past-progress, past-digits}
 
 type-back : (kind : MessageType) → typeOf (codeOf kind) ≡ Some kind
@@ -91,3 +91,6 @@ round-trip m f l =
     ap (λ r. onward r (λ x. onward (gathered 0 5 (x .elements) bare) (λ y. whole (length (encoded m)) x y))) h
     ∙ ap (λ r. onward r (λ y. whole (length (encoded m)) (record { reference = m .reference; kind = m .kind; elements = elementOctets (m .kind) (m .elements) }) y)) e
     ∙ joined (length (encoded m)) _ m (m .elements .digits) refl (λ ds d. same-place m ds d) l
+
+pub layout-examples : LayoutExamples
+layout-examples = record { setup-read = refl; setup-written = refl; cut-short = refl; no-reference = refl; disconnect-written = refl }

@@ -1,14 +1,11 @@
-//! QSIG messages as records, the octet layout as definitions (in specs/), and the laws of that layout.
+//! QSIG messages as records, and the octet layout with its laws as definitions (in specs/).
 mod complete;
 mod digit;
 mod kind;
-mod laws;
 mod record;
 
 pub use digit::all_digits;
 pub use kind::MessageType;
-pub use laws::layout_examples_stand;
-pub use laws::round_trip_stands;
 pub use record::CallReference;
 pub use record::Cause;
 pub use record::Channel;

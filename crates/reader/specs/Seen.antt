@@ -30,8 +30,11 @@ abbrev pub seenElements : Elements Part → Elements Digits
 seenElements e =
     record { complete = e .complete; cause = e .cause; channel = e .channel; progress = e .progress; digits = seenDigits (e .digits) }
 
+abbrev pub seenRecord : Message Part → Message Digits
+seenRecord m = record { reference = m .reference; kind = m .kind; elements = seenElements (m .elements) }
+
 abbrev pub seenMessage : Result (Message Part) Misread → Result (Message Digits) Misread
-seenMessage (Ok m) = Ok (record { reference = m .reference; kind = m .kind; elements = seenElements (m .elements) })
+seenMessage (Ok m) = Ok (seenRecord m)
 seenMessage (Err e) = Err e
 
 -- a part that is handed out is that part of the octets that its place says
