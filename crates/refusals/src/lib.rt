@@ -12,10 +12,17 @@ pub enum Ground {
     BadElement,
     IncompleteSetup,
     BadReference,
+    StatusOutOfRange,
     BufferTooShort,
     FieldOutOfRange,
     SettingOutOfRange,
+    NoSuchCall,
+    NotNow,
+    TimerNotRunning,
     QueueFull,
+    TransactionInUse,
+    DialogueInUse,
+    ReferenceInUse,
 }
 
 impl Ground {
@@ -31,10 +38,17 @@ impl Ground {
             Ground::BadElement => 5,
             Ground::IncompleteSetup => 6,
             Ground::BadReference => 7,
+            Ground::StatusOutOfRange => 8,
             Ground::BufferTooShort => 9,
             Ground::FieldOutOfRange => 10,
             Ground::SettingOutOfRange => 11,
+            Ground::NoSuchCall => 20,
+            Ground::NotNow => 21,
+            Ground::TimerNotRunning => 22,
             Ground::QueueFull => 23,
+            Ground::TransactionInUse => 24,
+            Ground::DialogueInUse => 25,
+            Ground::ReferenceInUse => 26,
         }
     }
 
@@ -50,10 +64,17 @@ impl Ground {
             Ground::BadElement => "an element breaks its layout",
             Ground::IncompleteSetup => "SETUP without channel or called number",
             Ground::BadReference => "call reference 0, or SETUP with flag 1",
+            Ground::StatusOutOfRange => "the SIP status is not 100 to 699",
             Ground::BufferTooShort => "the buffer is too short",
             Ground::FieldOutOfRange => "a field to be written is out of its range",
             Ground::SettingOutOfRange => "a setting is out of its range",
+            Ground::NoSuchCall => "no call matches",
+            Ground::NotNow => "the call does not take this now",
+            Ground::TimerNotRunning => "that timer is not running",
             Ground::QueueFull => "not enough free places in an outgoing queue",
+            Ground::TransactionInUse => "a call with an unanswered INVITE has this transaction",
+            Ground::DialogueInUse => "another call holds this dialogue",
+            Ground::ReferenceInUse => "a call has this reference already",
         }
     }
 }

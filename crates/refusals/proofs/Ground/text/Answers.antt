@@ -17,3 +17,12 @@ returns-in-UnknownType c = record { text-of-the-ground = said _ (c .in-UnknownTy
 
 pub returns-in-SettingOutOfRange : need.returns-in-SettingOutOfRange
 returns-in-SettingOutOfRange c = record { text-of-the-ground = said _ (c .in-SettingOutOfRange .is) refl }
+
+pub returns-in-StatusOutOfRange : need.returns-in-StatusOutOfRange
+returns-in-StatusOutOfRange c = record { text-of-the-ground = said _ (c .in-StatusOutOfRange .is) refl }
+
+pub returns-in-DialogueInUse : need.returns-in-DialogueInUse
+returns-in-DialogueInUse c = record { text-of-the-ground = said _ (c .in-DialogueInUse .is) refl }
+
+pub returns-in-ReferenceInUse : need.returns-in-ReferenceInUse
+returns-in-ReferenceInUse c = record { text-of-the-ground = said _ (c .in-ReferenceInUse .is) refl }

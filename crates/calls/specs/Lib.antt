@@ -1,0 +1,5 @@
+pub mod Words
+pub mod Effects
+pub mod Rules
+pub mod Run
+pub mod Laws
