@@ -23,6 +23,7 @@ use Rattle.calls.specs.declared.record.Digits.{Digits}
 use Rattle.calls.specs.declared.sides.ExchangeSide.{ExchangeSide}
 use Rattle.calls.specs.declared.sides.SipSide.{SipSide}
 use Rattle.calls.specs.declared.sides.Told.{Told}
+use Rattle.std.proofs.shelf.Tests.{cond-both}
 use Rattle.pools.specs.States.{States, idle}
 use Rattle.calls.specs.Words.{stage, isOver, sipStage, isGone, holds, owes, owesFrom, onCall, named, one-if, connectsIn, finalsIn, byeIn}
 use Rattle.calls.specs.Effects.{ExchangeMove, SipMove, Effect, unlessGone, movedCall, redialled}
@@ -48,6 +49,11 @@ abbrev pub SoundAt : Option Call → Type 0
 SoundAt None = Unit {0}
 SoundAt (Some k) = fits (k .exchange) (k .sip) ≡ true
 
+-- a call that is over on both sides is none
+abbrev pub PresentAt : Option Call → Type 0
+PresentAt None = Unit {0}
+PresentAt (Some k) = isGone k ≡ false
+
 -- the last INVITE is the one that came just now
 abbrev pub Asked : (ℕ → Option ℕ) → Event → Type 0
 Asked last (Exchange xs) = Unit {0}
@@ -71,6 +77,7 @@ pub record Balanced (pool : States) (old : Option Call) (ev : Event) (e : Effect
   pub sending : (last : ℕ → Option ℕ) (d : ℕ) → LinkedAt last old → sends d last (e .sip) ≡ true → onCall (talksCall d) (e .after) ≡ 1
   pub linked : (last : ℕ → Option ℕ) → Asked last ev → LinkedAt last old → LinkedAt last (e .after)
   pub sound : SoundAt (e .after)
+  pub present : PresentAt (e .after)
 
 -- a call that is over on both sides counts for nothing, so that its removal changes no count
 gone-sum : (f : Call → ℕ) (k : Call) → (isOver (k .exchange) ≡ true → sipStage (k .sip) ≡ 0 → f k ≡ 0) → onCall f (unlessGone k) ≡ f k
@@ -81,6 +88,9 @@ gone-linked last k h = elim (isGone k) as (λ b. LinkedAt last (cond b None (Som
 
 gone-sound : (k : Call) → fits (k .exchange) (k .sip) ≡ true → SoundAt (unlessGone k)
 gone-sound k h = elim (isGone k) as (λ b. SoundAt (cond b None (Some k))) [ true ↦ tt | false ↦ h ]
+
+gone-present : (k : Call) → PresentAt (unlessGone k)
+gone-present k = cond-both (isGone k) None (Some k) PresentAt (λ _. tt) (λ e. e)
 
 holds-over : (c : ℕ) (k : Call) → isOver (k .exchange) ≡ true → holds c k ≡ 0
 holds-over c k e = rw e
@@ -110,4 +120,5 @@ moved-balanced pool ev u k ds a b la lb i s =
       sending = λ last d x y. gone-sum (talksCall d) z (λ _ e. talks-off d (b .side) e) ∙ lb .sending last d x y;
       linked = λ last _ x. gone-linked last z (lb .linked last x);
       sound = gone-sound z s;
+      present = gone-present z;
     }

@@ -6,3 +6,4 @@ pub mod Choices
 pub mod Steps
 pub mod Runs
 pub mod Histories
+pub mod Examples

@@ -1,12 +1,12 @@
 -- Every run keeps the laws.
 use mathlib.Core.Bool.{Bool, true, false, cond, not, _&&_, _||_}
-use mathlib.Core.List.{List, [], _∷_, _++_}
+use mathlib.Core.List.{List, [], _∷_, _++_, append-assoc, append-nil}
 use mathlib.Core.Path.{_≡_, refl, sym, ap, _∙_, subst}
 use mathlib.Core.Logic.{_⊎_, inl, inr, ⊎-elim}
 use Prim.Native.Nat.{ℕ, zero, suc, _+_, _-_, _<_, _≤_}
 use native.Mathlib.Omega.{arith}
 use lib.Dec.{eqb, leb, ltb}
-use lib.ListN.{length, getD, set, replicate}
+use lib.ListN.{length, getD, set, drop, replicate}
 use Rattle.std.proofs.shelf.Ways.{tells}
 use Rattle.std.specs.declared.option.Option.{Option}
 use Rattle.std.specs.declared.option.Option.the-variants.{Some, None}
@@ -27,13 +27,13 @@ use Rattle.pools.specs.States.{States, idle}
 use Rattle.std.proofs.shelf.Tests.{cond-both, cond-true, eq-eqb, eqb-true}
 use Rattle.pools.specs.declared.channel.ChannelState.{ChannelState}
 use Rattle.pools.specs.States.{seized, after-any}
-use Rattle.calls.specs.Words.{named, isNamed, holds, owes, owesFrom, onCall, sumOf, one-if, finalsIn, byeIn, connectsIn, holdsDialogue}
+use Rattle.calls.specs.Words.{named, isNamed, holds, owes, owesFrom, onCall, sumOf, one-if, finalsIn, byeIn, connectsIn, holdsDialogue, isIn, isInviteSent}
 use Rattle.calls.specs.Effects.{Effect}
-use Rattle.calls.specs.Rules.{Event, Exchange, Invite, Cancel, Bye, Response, Expiry, CancelExpiry, TakeExchange, TakeSip, State, Choice, Fair, Outcome, Refuse, Reply, Move, TookExchange, TookSip, outcome, applied, shown, freed}
+use Rattle.calls.specs.Rules.{Event, Exchange, Invite, Cancel, Bye, Response, Expiry, CancelExpiry, TakeExchange, TakeSip, State, Choice, Fair, Outcome, Refuse, Reply, Move, TookExchange, TookSip, outcome, applied, first, shown, freed}
 use Rattle.calls.specs.Run.{Happening, happened, Opening, Run, opened, stepped}
-use Rattle.calls.specs.Laws.{Laws, seizures, releases, holders, owing, keepers, inviting, invitesTaken, finalsSent, setupsTaken, connectsSent, asks, lastDialogue, isUnended, comes, sends, parts}
+use Rattle.calls.specs.Laws.{Laws, seizures, releases, holders, owing, keepers, inviting, invitesTaken, finalsSent, setupsTaken, connectsSent, asks, lastDialogue, isUnended, comes, sends, parts, Stands, listed, exchangeSent, exchangeGone, sipSent, sipGone}
 use Rattle.calls.proofs.Moves.{Linked}
-use Rattle.calls.proofs.Balance.{Balanced, LinkedAt, SoundAt, talksCall, mayConnect, Asked}
+use Rattle.calls.proofs.Balance.{Balanced, LinkedAt, SoundAt, PresentAt, fits, talksCall, mayConnect, Asked}
 use Rattle.calls.proofs.Places.{Everywhere, everywhere-at, everywhere-set, everywhere-none, sumOf-set, sumOf-none, sumOf-at, sumOf-le}
 use Rattle.calls.proofs.Steps.{Lawful, Fresh, lawful, spoken}
 
@@ -49,6 +49,9 @@ pub record Inv (pool : States) (past : List Happening) (st : State) : Type 0 whe
   pub linked : Everywhere (LinkedAt (lastDialogue past)) (st .table)
   pub connects : (r : ℕ) → connectsSent r past + sumOf (mayConnect r) (st .table) ≤ setupsTaken r past
   pub sound : Everywhere SoundAt (st .table)
+  pub present : Everywhere PresentAt (st .table)
+  pub exchange-queue : exchangeGone past ++ st .exchange ≡ exchangeSent past
+  pub sip-queue : sipGone past ++ st .sip ≡ sipSent past
 
 -- ---------------------------------------------------------------- the laws follow
 seized-held : (p q : ChannelState) (h : ℕ) → h ≤ 1 → q ≡ cond (eqb h 0) p ChannelState.Seized → p ≡ ChannelState.Idle → q ≡ ChannelState.Seized → h ≡ 1
@@ -59,6 +62,13 @@ held-seized p q h e o = grind (arith, tells)
 
 talks-keeps : (d : ℕ) (k : Call) → talksCall d k ≤ one-if (holdsDialogue d k)
 talks-keeps d k = grind (arith, tells)
+
+proceeds-while-out : (k : Call) → fits (k .exchange) (k .sip) ≡ true → isInviteSent (k .sip) ≡ true → isIn ExchangeSide.Proceeding (k .exchange) ≡ true
+proceeds-while-out k f e = grind (arith, tells)
+
+stands-at : (os : List (Option Call)) → Everywhere SoundAt os → Everywhere PresentAt os → (i : ℕ) (k : Call) → getD os i None ≡ Some k → Stands k
+stands-at os s p i k e =
+    record { not-gone = subst PresentAt e (everywhere-at PresentAt tt os i p); invite-while-proceeding = proceeds-while-out k (subst SoundAt e (everywhere-at SoundAt tt os i s)) }
 
 inv-laws : (pool : States) (past : List Happening) (st : State) → Inv pool past st → Laws pool past st
 inv-laws pool past st v =
@@ -71,7 +81,25 @@ inv-laws pool past st v =
       one-owing = v .owing-one;
       unended-is-held = λ d e. omega (arith, v .talking d e, sumOf-le (talksCall d) (λ k. one-if (holdsDialogue d k)) (talks-keeps d) (st .table));
       connects-were-asked = λ r. omega (arith, v .connects r);
+      calls-stand = stands-at (st .table) (v .sound) (v .present);
+      exchange-sent-in-order = v .exchange-queue;
+      sip-sent-in-order = v .sip-queue;
     }
+
+-- ---------------------------------------------------------------- the queues of a step
+module _ {M : Type 0} (taken waits sent : List M) (e : taken ++ waits ≡ sent) where
+  -- messages are put
+  puts : (ms : List M) → (taken ++ []) ++ (waits ++ ms) ≡ sent ++ ms
+  puts ms = ap (λ (l : List M). l ++ (waits ++ ms)) (append-nil taken) ∙ sym (append-assoc taken waits ms) ∙ ap (λ (l : List M). l ++ ms) e
+
+  -- nothing is put or taken
+  idles : (taken ++ []) ++ waits ≡ sent ++ []
+  idles = ap (λ (l : List M). l ++ waits) (append-nil taken) ∙ e ∙ sym (append-nil sent)
+
+-- the oldest is taken
+takes : {M : Type 0} (taken waits sent : List M) → taken ++ waits ≡ sent → (taken ++ listed (first waits)) ++ drop 1 waits ≡ sent ++ []
+takes taken [] sent e = append-nil (taken ++ []) ∙ e ∙ sym (append-nil sent)
+takes taken (m ∷ ms) sent e = append-assoc taken (m ∷ []) ms ∙ e ∙ sym (append-nil sent)
 
 -- ---------------------------------------------------------------- the channels of a step
 idle-is : (x : ChannelState) → idle x ≡ true → x ≡ ChannelState.Idle
@@ -171,15 +199,15 @@ ended-cases false false false false u e = (refl, refl, inr (inr e))
 module _ (pool : States) (past : List Happening) (st : State) (v : Inv pool past st) (ev : Event) where
   refused : (r : _) → Inv pool (happened st ev (Refuse r) ∷ past) (applied st (Refuse r))
   refused r =
-      record { counts = λ c. omega (arith, v .counts c); one = v .one; shows = v .shows; free = v .free; invites = λ t. omega (arith, v .invites t); owing-one = v .owing-one; talking = v .talking; linked = v .linked; connects = λ x. omega (arith, v .connects x); sound = v .sound }
+      record { counts = λ c. omega (arith, v .counts c); one = v .one; shows = v .shows; free = v .free; invites = λ t. omega (arith, v .invites t); owing-one = v .owing-one; talking = v .talking; linked = v .linked; connects = λ x. omega (arith, v .connects x); sound = v .sound; present = v .present; exchange-queue = idles (exchangeGone past) (st .exchange) (exchangeSent past) (v .exchange-queue); sip-queue = idles (sipGone past) (st .sip) (sipSent past) (v .sip-queue) }
 
   took-exchange : Inv pool (happened st ev TookExchange ∷ past) (applied st TookExchange)
   took-exchange =
-      record { counts = λ c. omega (arith, v .counts c); one = v .one; shows = v .shows; free = v .free; invites = λ t. omega (arith, v .invites t); owing-one = v .owing-one; talking = v .talking; linked = v .linked; connects = λ x. omega (arith, v .connects x); sound = v .sound }
+      record { counts = λ c. omega (arith, v .counts c); one = v .one; shows = v .shows; free = v .free; invites = λ t. omega (arith, v .invites t); owing-one = v .owing-one; talking = v .talking; linked = v .linked; connects = λ x. omega (arith, v .connects x); sound = v .sound; present = v .present; exchange-queue = takes (exchangeGone past) (st .exchange) (exchangeSent past) (v .exchange-queue); sip-queue = idles (sipGone past) (st .sip) (sipSent past) (v .sip-queue) }
 
   took-sip : Inv pool (happened st ev TookSip ∷ past) (applied st TookSip)
   took-sip =
-      record { counts = λ c. omega (arith, v .counts c); one = v .one; shows = v .shows; free = v .free; invites = λ t. omega (arith, v .invites t); owing-one = v .owing-one; talking = v .talking; linked = v .linked; connects = λ x. omega (arith, v .connects x); sound = v .sound }
+      record { counts = λ c. omega (arith, v .counts c); one = v .one; shows = v .shows; free = v .free; invites = λ t. omega (arith, v .invites t); owing-one = v .owing-one; talking = v .talking; linked = v .linked; connects = λ x. omega (arith, v .connects x); sound = v .sound; present = v .present; exchange-queue = idles (exchangeGone past) (st .exchange) (exchangeSent past) (v .exchange-queue); sip-queue = takes (sipGone past) (st .sip) (sipSent past) (v .sip-queue) }
 
   abbrev last : ℕ → Option ℕ
   last = next ev (lastDialogue past)
@@ -192,7 +220,7 @@ module _ (pool : States) (past : List Happening) (st : State) (v : Inv pool past
 
     replied : Inv pool (happened st ev (Reply ms ss) ∷ past) (applied st (Reply ms ss))
     replied =
-        record { counts = λ c. omega (arith, v .counts c); one = v .one; shows = v .shows; free = v .free; invites = λ t. omega (arith, v .invites t, b .invites t); owing-one = v .owing-one; talking = replied-talks; linked = links ev (lastDialogue past) (st .table) f (v .linked); connects = λ x. omega (arith, v .connects x, b .connects x); sound = v .sound }
+        record { counts = λ c. omega (arith, v .counts c); one = v .one; shows = v .shows; free = v .free; invites = λ t. omega (arith, v .invites t, b .invites t); owing-one = v .owing-one; talking = replied-talks; linked = links ev (lastDialogue past) (st .table) f (v .linked); connects = λ x. omega (arith, v .connects x, b .connects x); sound = v .sound; present = v .present; exchange-queue = puts (exchangeGone past) (st .exchange) (exchangeSent past) (v .exchange-queue) ms; sip-queue = puts (sipGone past) (st .sip) (sipSent past) (v .sip-queue) ss }
 
   module _ (i : ℕ) (e : Effect) (f : Fresh st ev) (inside : i < length (st .table)) (b : Balanced (st .pool) (getD (st .table) i None) ev e) where
     abbrev old : Option Call
@@ -243,6 +271,9 @@ module _ (pool : States) (past : List Happening) (st : State) (v : Inv pool past
           linked = everywhere-set (LinkedAt last) (st .table) i (e .after) relinked (b .linked last (asked-now ev (lastDialogue past)) old-linked);
           connects = λ x. omega (arith, v .connects x, changed (mayConnect x), b .connects x);
           sound = everywhere-set SoundAt (st .table) i (e .after) (v .sound) (b .sound);
+          present = everywhere-set PresentAt (st .table) i (e .after) (v .present) (b .present);
+          exchange-queue = puts (exchangeGone past) (st .exchange) (exchangeSent past) (v .exchange-queue) (e .exchange);
+          sip-queue = puts (sipGone past) (st .sip) (sipSent past) (v .sip-queue) (e .sip);
         }
 
   step : (o : Outcome) → Lawful st ev o → Inv pool (happened st ev o ∷ past) (applied st o)
@@ -267,6 +298,9 @@ at-opening st o =
       linked = subst (Everywhere (LinkedAt (lastDialogue []))) (sym (o .calls)) (everywhere-none (LinkedAt (lastDialogue [])) tt 64);
       connects = λ r. omega (arith, no (mayConnect r));
       sound = subst (Everywhere SoundAt) (sym (o .calls)) (everywhere-none SoundAt tt 64);
+      present = subst (Everywhere PresentAt) (sym (o .calls)) (everywhere-none PresentAt tt 64);
+      exchange-queue = o .exchange;
+      sip-queue = o .sip;
     }
 
 run-inv : (start : State) → Opening start → {past : List Happening} {st : State} → Run start past st → Inv (start .pool) past st

@@ -64,19 +64,19 @@ fresh st ev u t e = absurd (omega (arith, u t, e))
 -- ---------------------------------------------------------------- answers without a call
 spoken-balanced : (pool : States) (ev : Event) → Uninvited ev → Quiet ev → (ms : List (Message Digits)) → Mute ms → Balanced pool None ev (spoken ms [])
 spoken-balanced pool ev u q ms mute =
-    record { channels = λ c. refl; idle = λ c e. absurd (omega arith); invites = λ t. omega (arith, u t); connects = λ r. omega (arith, mute r); talking = λ d x y. omega arith; opening = λ d x y. absurd (let z = q d in grind arith); sending = λ last d x y. absurd (grind arith); linked = λ last x y. tt; sound = tt }
+    record { channels = λ c. refl; idle = λ c e. absurd (omega arith); invites = λ t. omega (arith, u t); connects = λ r. omega (arith, mute r); talking = λ d x y. omega arith; opening = λ d x y. absurd (let z = q d in grind arith); sending = λ last d x y. absurd (grind arith); linked = λ last x y. tt; sound = tt; present = tt }
 
 answered-balanced : (pool : States) (t d : ℕ) (xs : List ℕ) (s : ℕ) → 300 ≤ s → s ≤ 699 → Balanced pool None (Invite t d xs) (spoken [] (SipMessage.Response t s ∷ []))
 answered-balanced pool t d xs s lo hi =
-    record { channels = λ c. refl; idle = λ c e. absurd (omega arith); invites = λ t. grind (arith, tells); connects = λ r. omega arith; talking = λ d x y. omega arith; opening = λ d x y. absurd (grind arith); sending = λ last d x y. absurd (grind (arith, tells)); linked = λ last x y. tt; sound = tt }
+    record { channels = λ c. refl; idle = λ c e. absurd (omega arith); invites = λ t. grind (arith, tells); connects = λ r. omega arith; talking = λ d x y. omega arith; opening = λ d x y. absurd (grind arith); sending = λ last d x y. absurd (grind (arith, tells)); linked = λ last x y. tt; sound = tt; present = tt }
 
 declined-balanced : (pool : States) (n d : ℕ) (media : Bool) → Balanced pool None (Response n 200 d media) (spoken [] (ackAndBye n d))
 declined-balanced pool n d media =
-    record { channels = λ c. refl; idle = λ c e. absurd (omega arith); invites = λ t. refl; connects = λ r. omega arith; talking = λ d x y. omega arith; opening = λ d x y. absurd (grind (arith, tells)); sending = λ last d x y. absurd (grind (arith, tells)); linked = λ last x y. tt; sound = tt }
+    record { channels = λ c. refl; idle = λ c e. absurd (omega arith); invites = λ t. refl; connects = λ r. omega arith; talking = λ d x y. omega arith; opening = λ d x y. absurd (grind (arith, tells)); sending = λ last d x y. absurd (grind (arith, tells)); linked = λ last x y. tt; sound = tt; present = tt }
 
 acked-balanced : (pool : States) (n s d : ℕ) (media : Bool) → eqb s 200 ≡ false → Balanced pool None (Response n s d media) (spoken [] (SipMessage.Ack n d ∷ []))
 acked-balanced pool n s d media e =
-    record { channels = λ c. refl; idle = λ c e. absurd (omega arith); invites = λ t. refl; connects = λ r. omega arith; talking = λ d x y. omega arith; opening = λ d x y. absurd (grind (arith, tells)); sending = λ last d x y. absurd (grind (arith, tells)); linked = λ last x y. tt; sound = tt }
+    record { channels = λ c. refl; idle = λ c e. absurd (omega arith); invites = λ t. refl; connects = λ r. omega arith; talking = λ d x y. omega arith; opening = λ d x y. absurd (grind (arith, tells)); sending = λ last d x y. absurd (grind (arith, tells)); linked = λ last x y. tt; sound = tt; present = tt }
 
 -- ---------------------------------------------------------------- new calls
 picked : (pool : States) (c : ℕ) → idle (pool c) ≡ true → (x : ℕ) → named x (Some c) ≡ 1 → idle (pool x) ≡ true
@@ -89,18 +89,18 @@ Brings ev m = (r : ℕ) → brings r ev ≡ one-if (eqb (m .reference .number) r
 module _ (pool : States) (ev : Event) (u : Uninvited ev) (q : Quiet ev) (m : Message Heard) (b : Brings ev m) (n c : ℕ) (i : idle (pool c) ≡ true) where
   proceeding-balanced : Balanced pool None ev (beginsProceeding m n c)
   proceeding-balanced =
-      record { channels = λ x. grind (arith, tells); idle = picked pool c i; invites = λ t. omega (arith, u t); connects = λ r. (let z = b r in grind (arith, tells)); talking = λ d x y. omega arith; opening = λ d x y. absurd (let z = q d in grind arith); sending = λ last d x y. absurd (grind (arith, tells)); linked = λ last x y. tt; sound = refl }
+      record { channels = λ x. grind (arith, tells); idle = picked pool c i; invites = λ t. omega (arith, u t); connects = λ r. (let z = b r in grind (arith, tells)); talking = λ d x y. omega arith; opening = λ d x y. absurd (let z = q d in grind arith); sending = λ last d x y. absurd (grind (arith, tells)); linked = λ last x y. tt; sound = refl; present = refl }
 
   collecting-balanced : Balanced pool None ev (beginsCollecting m n c)
   collecting-balanced =
-      record { channels = λ x. grind (arith, tells); idle = picked pool c i; invites = λ t. omega (arith, u t); connects = λ r. (let z = b r in grind (arith, tells)); talking = λ d x y. omega arith; opening = λ d x y. absurd (let z = q d in grind arith); sending = λ last d x y. absurd (grind (arith, tells)); linked = λ last x y. tt; sound = refl }
+      record { channels = λ x. grind (arith, tells); idle = picked pool c i; invites = λ t. omega (arith, u t); connects = λ r. (let z = b r in grind (arith, tells)); talking = λ d x y. omega arith; opening = λ d x y. absurd (let z = q d in grind arith); sending = λ last d x y. absurd (grind (arith, tells)); linked = λ last x y. tt; sound = refl; present = refl }
 
   begins-balanced : (full : ℕ) → Balanced pool None ev (begins full m n c)
   begins-balanced full = cond-both (isWhole full m (heardDigits m)) _ _ (Balanced pool None ev) (λ _. proceeding-balanced) (λ _. collecting-balanced)
 
 invited-balanced : (pool : States) (t d : ℕ) (xs : List ℕ) (c : ℕ) → idle (pool c) ≡ true → Balanced pool None (Invite t d xs) (invited t d xs c)
 invited-balanced pool t d xs c i =
-    record { channels = λ x. grind (arith, tells); idle = picked pool c i; invites = λ t. grind (arith, tells); connects = λ r. grind (arith, tells); talking = λ d x y. omega arith; opening = λ d x y. absurd (grind arith); sending = λ last d x y. absurd (grind (arith, tells)); linked = λ last x y. x; sound = refl }
+    record { channels = λ x. grind (arith, tells); idle = picked pool c i; invites = λ t. grind (arith, tells); connects = λ r. grind (arith, tells); talking = λ d x y. omega arith; opening = λ d x y. absurd (grind arith); sending = λ last d x y. absurd (grind (arith, tells)); linked = λ last x y. x; sound = refl; present = refl }
 
 -- ---------------------------------------------------------------- the steps
 abbrev Free : State → ℕ → Type 0

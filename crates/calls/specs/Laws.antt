@@ -4,6 +4,7 @@ use mathlib.Core.List.{List, [], _∷_, _++_}
 use mathlib.Core.Path.{_≡_}
 use Prim.Native.Nat.{ℕ, _+_, _<_, _≤_}
 use lib.Dec.{eqb}
+use lib.ListN.{getD}
 use Rattle.std.specs.declared.option.Option.{Option}
 use Rattle.std.specs.declared.option.Option.the-variants.{Some, None}
 use Rattle.std.specs.declared.result.Result.{Result}
@@ -18,7 +19,10 @@ use Rattle.pools.specs.States.{States}
 use Rattle.calls.specs.declared.answers.Answer.{Answer}
 use Rattle.calls.specs.declared.answers.Report.{Report}
 use Rattle.calls.specs.declared.outgoing.SipMessage.{SipMessage}
-use Rattle.calls.specs.Words.{one-if, named, holds, owes, sumOf, holdsDialogue, connectsIn, finalsIn, byeIn}
+use Rattle.calls.specs.declared.record.Call.{Call}
+use Rattle.calls.specs.declared.record.Digits.{Digits}
+use Rattle.calls.specs.declared.sides.ExchangeSide.{ExchangeSide}
+use Rattle.calls.specs.Words.{isIn, isInviteSent, isGone, one-if, named, holds, owes, sumOf, holdsDialogue, connectsIn, finalsIn, byeIn}
 use Rattle.calls.specs.Rules.{Event, Exchange, Invite, Cancel, Bye, Response, Expiry, CancelExpiry, TakeExchange, TakeSip, State, Stepping}
 use Rattle.calls.specs.Run.{Happening, Opening, Run, Tells}
 
@@ -179,8 +183,48 @@ owing t st = sumOf (owes t) (st .table)
 abbrev pub keepers : ℕ → State → ℕ
 keepers d st = sumOf (λ k. one-if (holdsDialogue d k)) (st .table)
 
+-- a call is over on one side at most, and an INVITE of the gateway's own is out only while it proceeds
+pub record Stands (k : Call) : Type 0 where
+  pub not-gone : isGone k ≡ false
+  pub invite-while-proceeding : isInviteSent (k .sip) ≡ true → isIn ExchangeSide.Proceeding (k .exchange) ≡ true
+
+-- ---------------------------------------------------------------- the queues
+-- something of each happening, oldest first
+abbrev pub gathered : {M : Type 0} → (Happening → List M) → List Happening → List M
+gathered f [] = []
+gathered f (h ∷ hs) = gathered f hs ++ f h
+
+abbrev pub listed : {M : Type 0} → Option M → List M
+listed None = []
+listed (Some m) = m ∷ []
+
+-- what a taking took
+abbrev pub exchangeTaken : Answer → List (Message Digits)
+exchangeTaken (Answer.Step r) = []
+exchangeTaken (Answer.Exchange m) = listed m
+exchangeTaken (Answer.Sip m) = []
+
+abbrev pub sipTaken : Answer → List SipMessage
+sipTaken (Answer.Step r) = []
+sipTaken (Answer.Exchange m) = []
+sipTaken (Answer.Sip m) = listed m
+
+-- all that was sent to either side, and all that was taken from its queue
+abbrev pub exchangeSent : List Happening → List (Message Digits)
+exchangeSent past = gathered (λ h. h .exchange) past
+
+abbrev pub exchangeGone : List Happening → List (Message Digits)
+exchangeGone past = gathered (λ h. exchangeTaken (h .answer)) past
+
+abbrev pub sipSent : List Happening → List SipMessage
+sipSent past = gathered (λ h. h .sip) past
+
+abbrev pub sipGone : List Happening → List SipMessage
+sipGone past = gathered (λ h. sipTaken (h .answer)) past
+
 -- ---------------------------------------------------------------- the laws
--- the pool at the opening, the history since, and the state that it led to
+-- the pool at the opening, the history since, and the state that it led to: of each channel that was idle, of each transaction
+-- of an INVITE that came, of each dialogue, of each reference, of each call, and of what was taken and what waits of all that was sent
 pub record Laws (pool : States) (past : List Happening) (st : State) : Type 0 where
   pub seizures-balance : (c : ℕ) → pool c ≡ Idle → seizures c past ≡ releases c past + holders c st
   pub one-holder : (c : ℕ) → pool c ≡ Idle → holders c st ≤ 1
@@ -190,6 +234,9 @@ pub record Laws (pool : States) (past : List Happening) (st : State) : Type 0 wh
   pub one-owing : (t : ℕ) → owing t st ≤ 1
   pub unended-is-held : (d : ℕ) → isUnended d past ≡ true → 0 < keepers d st
   pub connects-were-asked : (r : ℕ) → connectsSent r past ≤ setupsTaken r past
+  pub calls-stand : (i : ℕ) (k : Call) → getD (st .table) i None ≡ Some k → Stands k
+  pub exchange-sent-in-order : exchangeGone past ++ st .exchange ≡ exchangeSent past
+  pub sip-sent-in-order : sipGone past ++ st .sip ≡ sipSent past
 
 -- a cut of a run: the state that this very run passed through, the run to it, the rest from it, and the laws at it
 pub record Passed (start : State) (later earlier : List Happening) (end : State) : Type 0 where

@@ -3,3 +3,4 @@ pub mod Effects
 pub mod Rules
 pub mod Run
 pub mod Laws
+pub mod Examples

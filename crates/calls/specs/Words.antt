@@ -161,9 +161,24 @@ isHeldBy d SipSide.CancelSent = false
 abbrev pub one-if : Bool → ℕ
 one-if b = cond b 1 0
 
--- a call holds its channel while its exchange side is not over
+-- the optional channel is c
+abbrev pub isNamed : ℕ → Option ℕ → Bool
+isNamed c None = false
+isNamed c (Some x) = eqb c x
+
+abbrev pub named : ℕ → Option ℕ → ℕ
+named c o = one-if (isNamed c o)
+
+-- the channel of a call: its own while its exchange side is not over, else none
+abbrev pub channelFrom : ExchangeSide → ℕ → Option ℕ
+channelFrom side channel = cond (isOver side) None (Some channel)
+
+abbrev pub channelOf : Call → Option ℕ
+channelOf k = channelFrom (k .exchange) (k .channel)
+
+-- a call holds its channel
 abbrev pub holdsFrom : ℕ → ExchangeSide → ℕ → ℕ
-holdsFrom c side channel = cond (isOver side) 0 (one-if (eqb c channel))
+holdsFrom c side channel = named c (channelFrom side channel)
 
 abbrev pub holds : ℕ → Call → ℕ
 holds c k = holdsFrom c (k .exchange) (k .channel)
@@ -191,14 +206,6 @@ onCall f (Some k) = f k
 abbrev pub sumOf : (Call → ℕ) → List (Option Call) → ℕ
 sumOf f [] = 0
 sumOf f (o ∷ os) = onCall f o + sumOf f os
-
--- the optional channel is c
-abbrev pub isNamed : ℕ → Option ℕ → Bool
-isNamed c None = false
-isNamed c (Some x) = eqb c x
-
-abbrev pub named : ℕ → Option ℕ → ℕ
-named c o = one-if (isNamed c o)
 
 -- CONNECT with this reference
 abbrev pub connects : ℕ → Message Digits → ℕ
