@@ -1,3 +1,4 @@
 pub mod Tokens
 pub mod Wishes
-pub mod Seating
+pub mod Keys
+pub mod Records

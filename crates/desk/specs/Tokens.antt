@@ -14,3 +14,8 @@ channelOf (Some token) = Some (token .channel)
 abbrev pub granted : Bool → ℕ → Option ℕ
 granted true c = Some c
 granted false c = None
+
+-- the token of a channel, if there is one
+abbrev pub tokenOf : Option ℕ → Option Token
+tokenOf None = None
+tokenOf (Some c) = Some (record { channel = c })

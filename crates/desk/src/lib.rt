@@ -1,9 +1,12 @@
 //! Seized channels: a token for each that stands in no call, the trunk that hands them out and takes them back, and the
-//! places where they are entered. Tokens are made and spent in this crate alone.
-mod seats;
+//! table of the calls that hold them. Tokens are made and spent in this crate alone.
+mod key;
+mod table;
 mod token;
 mod trunk;
 
-pub use seats::Seats;
+pub use key::Key;
+pub use table::Found;
+pub use table::Table;
 pub use token::Token;
 pub use trunk::Trunk;

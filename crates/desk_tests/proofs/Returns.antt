@@ -1,6 +1,6 @@
 -- A token that is handed back, and a channel that is released again: all is as it was.
 use mathlib.Core.Path.{_≡_, refl, sym, ap, _∙_}
-use mathlib.Core.Bool.{Bool, true, false, cond}
+use mathlib.Core.Bool.{Bool, true, false, cond, _&&_}
 use mathlib.Core.List.{List}
 use mathlib.Core.Logic.{⊎-elim}
 use Prim.Native.Nat.{ℕ}
@@ -13,13 +13,20 @@ use Rattle.std.specs.declared.result.Result.the-variants.{Err}
 use Rattle.pools.specs.declared.channel.ChannelState.{ChannelState}
 use Rattle.pools.specs.declared.channel.ChannelState.the-variants.{Unknown, Idle, Seized}
 use Rattle.pools.specs.States.{States, idle, seized, put, after-release}
+use Rattle.calls.specs.declared.record.Call.{Call}
 use Rattle.desk.specs.declared.token.Token.{Token}
-use Rattle.desk.specs.Seating.{answered, afterEntering}
-use Rattle.desk_tests.specs.Stays.{Occupies}
+use Rattle.desk.specs.Records.{isFree, admits, answered, afterEntering}
+use Rattle.desk_tests.specs.Stays.{callOn, Occupies}
 
-pub handed-back : (free : Bool) (back token : Token) (places after : List (Option ℕ)) (place : ℕ) → Err back ≡ answered free token → after ≡ afterEntering free places place (token .channel) → (back .channel ≡ token .channel) × (after ≡ places) × ((wishedIdle exclusive : Bool) (wished : ℕ) (s : States) → Occupies free wishedIdle exclusive wished s None)
-handed-back true back token places after place e f = absurd (let z : _≡_ {A = ℕ} 0 1 = cc in omega arith)
-handed-back false back token places after place e f = (cc, f, λ i x w s. refl)
+-- a call that collects digits on the token's channel is admitted wherever the place is free
+pub admitted-if-free : (places : List (Option Call)) (place c channel : ℕ) (call : Call) → call ≡ callOn channel → channel ≡ c → admits places place call c ≡ isFree places place
+admitted-if-free places place c channel call e f =
+    ap (λ (k : Call). admits places place k c) e ∙ ap (λ b. b && isFree places place) (eq-eqb channel c f)
+
+pub handed-back : (free admitted : Bool) (back token : Token) (places after : List (Option Call)) (place : ℕ) (call : Call) → admitted ≡ free → Err back ≡ answered admitted token → after ≡ afterEntering admitted places place call → (back .channel ≡ token .channel) × (after ≡ places) × ((wishedIdle exclusive : Bool) (wished : ℕ) (s : States) → Occupies free wishedIdle exclusive wished s None)
+handed-back free true back token places after place call a e f = absurd (let z : _≡_ {A = ℕ} 0 1 = cc in omega arith)
+handed-back true false back token places after place call a e f = absurd (let z : _≡_ {A = ℕ} 0 1 = cc in omega arith)
+handed-back false false back token places after place call a e f = (cc, f, λ i x w s. refl)
 
 idle-is : (x : ChannelState) → idle x ≡ true → Idle ≡ x
 idle-is Unknown e = absurd (let z : _≡_ {A = ℕ} 0 1 = cc in omega arith)

@@ -1,0 +1,35 @@
+//! What a step does to one call: the moves of its two sides, what it says to the exchange, and the effect of both moves together.
+mod clearing;
+mod effect;
+mod exchange;
+mod sip;
+mod telling;
+
+pub use clearing::cause_for;
+pub use clearing::code;
+pub use clearing::is_unavailable;
+pub use clearing::ours;
+pub use effect::Effect;
+pub use effect::ExchangeMove;
+pub use effect::SipMove;
+pub use effect::made;
+pub use effect::moved;
+pub use effect::redialled;
+pub use exchange::clears_exchange;
+pub use exchange::ends;
+pub use exchange::enters;
+pub use exchange::releases;
+pub use exchange::retries;
+pub use exchange::stays;
+pub use sip::answers;
+pub use sip::becomes;
+pub use sip::clears_sip;
+pub use sip::invites;
+pub use sip::keeps;
+pub use sip::leaves_sip;
+pub use sip::responds;
+pub use telling::answers_setup;
+pub use telling::setup_on;
+pub use telling::tell;
+pub use telling::tell_cause;
+pub use telling::tell_progress;
