@@ -140,6 +140,55 @@ fn a_record_that_does_not_hold_the_channel() -> Result<(), Fail> {
     }
 }
 
+/// Keys, and the places of the calls that they find in the table of the test.
+const FINDINGS: [(&str, Key, Option<usize>); 16] = [
+    (
+        "reference",
+        Key::Reference(CallReference {
+            flag: false,
+            number: 5,
+        }),
+        Some(3),
+    ),
+    (
+        "reference with the other flag",
+        Key::Reference(CallReference {
+            flag: true,
+            number: 5,
+        }),
+        Some(6),
+    ),
+    (
+        "no such reference with this flag",
+        Key::Reference(CallReference {
+            flag: false,
+            number: 8,
+        }),
+        None,
+    ),
+    ("transaction", Key::Transaction(40), Some(6)),
+    ("no such transaction", Key::Transaction(50), None),
+    (
+        "dialogue of an unanswered INVITE",
+        Key::Dialogue(50),
+        Some(6),
+    ),
+    ("dialogue of a call that is up", Key::Dialogue(51), Some(63)),
+    ("no such dialogue", Key::Dialogue(40), None),
+    ("number, SIP side not begun", Key::Number(5), Some(3)),
+    ("no such number", Key::Number(8), None),
+    ("live number, SIP side not begun", Key::LiveNumber(5), None),
+    ("live number, INVITE out", Key::LiveNumber(6), Some(4)),
+    ("live number, CANCEL out", Key::LiveNumber(7), Some(5)),
+    (
+        "awaited number, SIP side not begun",
+        Key::AwaitedNumber(5),
+        None,
+    ),
+    ("awaited number, INVITE out", Key::AwaitedNumber(6), Some(4)),
+    ("awaited number, CANCEL out", Key::AwaitedNumber(7), Some(5)),
+];
+
 #[test]
 fn every_way_of_finding() -> Result<(), Fail> {
     let mut trunk = Trunk::new(LinkPool::new());
@@ -155,56 +204,26 @@ fn every_way_of_finding() -> Result<(), Fail> {
         transaction: 40,
         dialogue: 50,
     };
-    check_eq(place_of(&table, Key::Number(5)), None).note("an empty table")?;
-    check(enter(
-        &mut trunk,
-        &mut table,
-        3,
-        from_exchange(5, ExchangeSide::Collecting, SipSide::None),
-    ))?;
-    check(enter(
-        &mut trunk,
-        &mut table,
-        4,
-        from_exchange(6, ExchangeSide::Proceeding, invited),
-    ))?;
-    check(enter(
-        &mut trunk,
-        &mut table,
-        5,
-        from_exchange(7, cleared, SipSide::CancelSent),
-    ))?;
-    check(enter(
-        &mut trunk,
-        &mut table,
-        6,
-        to_exchange(5, ExchangeSide::SetupSent, unanswered),
-    ))?;
-    check(enter(
-        &mut trunk,
-        &mut table,
-        63,
-        to_exchange(8, ExchangeSide::Up, SipSide::Up { dialogue: 51 }),
-    ))?;
-    check_eq(place_of(&table, reference(false, 5)), Some(3)).note("reference")?;
-    check_eq(place_of(&table, reference(true, 5)), Some(6)).note("reference with the other flag")?;
-    check_eq(place_of(&table, reference(false, 8)), None).note("no such reference with this flag")?;
-    check_eq(place_of(&table, Key::Transaction(40)), Some(6)).note("transaction")?;
-    check_eq(place_of(&table, Key::Transaction(50)), None).note("no such transaction")?;
-    check_eq(place_of(&table, Key::Dialogue(50)), Some(6)).note(
-        "dialogue of an unanswered INVITE",
-    )?;
-    check_eq(place_of(&table, Key::Dialogue(51)), Some(63)).note("dialogue of a call that is up")?;
-    check_eq(place_of(&table, Key::Dialogue(40)), None).note("no such dialogue")?;
-    check_eq(place_of(&table, Key::Number(5)), Some(3)).note("number, SIP side not begun")?;
-    check_eq(place_of(&table, Key::LiveNumber(5)), None).note("live number, SIP side not begun")?;
-    check_eq(place_of(&table, Key::LiveNumber(6)), Some(4)).note("live number")?;
-    check_eq(place_of(&table, Key::AwaitedNumber(5)), None).note(
-        "awaited number, SIP side not begun",
-    )?;
-    check_eq(place_of(&table, Key::AwaitedNumber(6)), Some(4)).note("awaited number, INVITE out")?;
-    check_eq(place_of(&table, Key::AwaitedNumber(7)), Some(5)).note("awaited number, CANCEL out")?;
-    check_eq(place_of(&table, Key::Number(8)), None).note("no such number")
+    let entries = [
+        (3, from_exchange(5, ExchangeSide::Collecting, SipSide::None)),
+        (4, from_exchange(6, ExchangeSide::Proceeding, invited)),
+        (5, from_exchange(7, cleared, SipSide::CancelSent)),
+        (6, to_exchange(5, ExchangeSide::SetupSent, unanswered)),
+        (
+            63,
+            to_exchange(8, ExchangeSide::Up, SipSide::Up { dialogue: 51 }),
+        ),
+    ];
+    for entry in &FINDINGS {
+        check_eq(place_of(&table, entry.1), None).note(entry.0)?;
+    }
+    for entry in &entries {
+        check(enter(&mut trunk, &mut table, entry.0, entry.1))?;
+    }
+    for entry in &FINDINGS {
+        check_eq(place_of(&table, entry.1), entry.2).note(entry.0)?;
+    }
+    Ok(())
 }
 
 #[test]

@@ -4,8 +4,11 @@ use mathlib.Core.Path.{_≡_, refl, sym, ap, _∙_}
 use Prim.Native.Nat.{ℕ, zero, suc, _+_, _-_, _<_, _≤_}
 use native.Mathlib.Omega.{arith}
 use lib.ListN.{length, getD, set, take, drop, replicate, length-take, length-append}
-use mathlib.Core.Bool.{true, false}
-use Rattle.std.proofs.shelf.Tests.{le-leb, lt-leb}
+use mathlib.Core.Bool.{true, false, not}
+use mathlib.Core.Logic.{inl, inr}
+use lib.Dec.{leb}
+use Rattle.std.proofs.shelf.Ways.{leb-tells}
+use Rattle.std.proofs.shelf.Tests.{le-leb, lt-leb, leb-false}
 use Rattle.calls.specs.Effects.{isTooMany}
 use Rattle.std.proofs.shelf.Lists.{take-more, set-append-right, take-all}
 
@@ -66,3 +69,18 @@ too-many xs bs n e le h = let g : 21 ≤ length (xs ++ bs) = simp length-append 
 
 pub not-too-many : (xs bs : List ℕ) (n : ℕ) → n ≡ length xs → n ≤ 20 → length bs ≤ 20 - n → isTooMany (xs ++ bs) ≡ false
 not-too-many xs bs n e le h = let g : length (xs ++ bs) < 21 = simp length-append (omega arith) in lt-leb _ _ g
+
+pub room : (xs bs : List ℕ) (n : ℕ) → n ≡ length xs → n ≤ 20 → isTooMany (xs ++ bs) ≡ not (leb (length bs) (20 - n))
+room xs bs n e le =
+    elim (leb-tells (length bs) (20 - n)) [ inl p ↦ not-too-many xs bs n e le (p .1) ∙ sym (ap not (p .0)) | inr p ↦ too-many xs bs n e le (p .1) ∙ sym (ap not (p .0)) ]
+
+pub few : (xs ys bs : List ℕ) → ys ≡ xs → isTooMany (xs ++ bs) ≡ false → length ys + length bs ≤ 20
+few xs ys bs e h =
+    let g : length (xs ++ bs) < 21 = leb-false 21 (length (xs ++ bs)) h in
+    let l : length (xs ++ bs) ≡ length xs + length bs = length-append xs bs in
+    let m : length ys ≡ length xs = ap length e in
+    omega (arith, g, l, m)
+
+-- the digits of a record, by how many there are
+pub again : (n k : ℕ) (xs : List ℕ) → k ≡ length (take n xs) → take k xs ≡ take n xs
+again n k xs e = ap (λ j. take j xs) e ∙ take-again n xs

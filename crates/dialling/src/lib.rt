@@ -1,9 +1,10 @@
 //! The digits of a called number as a record of at most 20.
 ghost use mathlib.Core.Path.{_≡_};
+ghost use mathlib.Core.Bool.{false, not};
 ghost use mathlib.Core.List.{_++_};
 ghost use Prim.Native.Nat.{_+_, _≤_};
 ghost use lib.ListN.{length};
-ghost use Rattle.calls.specs.Effects.{recorded as recording, meant as meaning, isNothing};
+ghost use Rattle.calls.specs.Effects.{recorded as recording, meant as meaning, isNothing, isTooMany};
 ghost use Rattle.dialling.specs.Joining.{Joins};
 use calls::Digits;
 
@@ -53,16 +54,32 @@ fn count_of(digits: Digits) -> usize
     }
 }
 
+/// Whether more digits find room behind those of a record.
+fn fits(known: Digits, more: &[u8]) -> bool
+    ensures not_too_many { λ r. ⌜ isTooMany (meaning known ++ now (more .entry)) ≡ not r ⌝ }
+{
+    more.len() <= MOST_DIGITS - count_of(known)
+}
+
+/// The digits of a record with more behind them, which find room.
+fn appended(known: Digits, more: &[u8]) -> Digits
+    requires room { ⌜ isTooMany (meaning known ++ now more) ≡ false ⌝ }
+    ensures one_behind_the_other { λ r. ⌜ r ≡ recording (meaning known ++ now (more .entry)) ⌝ }
+{
+    let count = count_of(known);
+    let octets = known.octets;
+    extended(&octets[..count], more)
+}
+
 /// The digits of a record with more behind them, or nothing where these are more than 20 together.
 pub fn joined(known: Digits, more: &[u8]) -> Option<Digits>
     ensures joined_unless_too_many { λ r. ⌜ Joins (meaning known ++ now (more .entry)) r ⌝ }
 {
-    let count = count_of(known);
-    if more.len() > MOST_DIGITS - count {
-        return None;
+    if fits(known, more) {
+        Some(appended(known, more))
+    } else {
+        None
     }
-    let octets = known.octets;
-    Some(extended(&octets[..count], more))
 }
 
 /// Whether a record has no digit.

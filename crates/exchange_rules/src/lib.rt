@@ -8,3 +8,4 @@ mod setup;
 pub use expiry::on_expiry;
 pub use message::on_message;
 pub use setup::begins;
+pub use setup::is_misdialled;

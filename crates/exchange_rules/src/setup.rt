@@ -5,6 +5,7 @@ ghost use lib.ListN.{length};
 ghost use Rattle.calls.specs.Effects.{heardDigits, setupCall, isWhole, beginsProceeding, beginsCollecting, begins as beginning};
 ghost use Rattle.reader.specs.Seen.{seenRecord};
 ghost use Rattle.moves.specs.Moves.{effectOf};
+ghost use Rattle.exchange_rules.specs.Gathering.{misdialled};
 use crate::dialled::heard_digits;
 use calls::Call;
 use calls::ExchangeSide;
@@ -19,6 +20,9 @@ use moves::Effect;
 use moves::answers_setup;
 use moves::made;
 use queues::few::Few;
+
+/// As many digits as a call can have.
+const MOST_DIGITS: usize = 20;
 
 fn setup_call(
     message: Message<Part<'_>>,
@@ -90,6 +94,14 @@ fn is_whole(full: usize, message: Message<Part<'_>>) -> bool
     ensures said_or_counted { λ r. ⌜ r ≡ isWhole full (seenRecord (message .entry)) (heardDigits (seenRecord (message .entry))) ⌝ }
 {
     message.elements.complete || full <= heard_digits(message).len()
+}
+
+/// Whether the digits of a SETUP cannot be a number: too many, or none though the sender says that the number is whole.
+pub fn is_misdialled(message: Message<Part<'_>>) -> bool
+    ensures too_many_or_none { λ r. ⌜ r ≡ misdialled (seenRecord (message .entry)) ⌝ }
+{
+    let count = heard_digits(message).len();
+    count > MOST_DIGITS || message.elements.complete && count == 0
 }
 
 /// A new call from the exchange, with the next number, on a channel that was seized for it. Who calls this has tested that

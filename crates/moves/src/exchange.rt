@@ -69,11 +69,8 @@ pub fn clears_exchange(call: Call, cause: Cause) -> ExchangeMove
 {
     if is_uncleared(call.exchange) {
         let disconnect = tell_cause(MessageType::Disconnect, call, Some(cause));
-        enters(
-            call,
-            ExchangeSide::DisconnectSent { cause },
-            Few::One(disconnect),
-        )
+        let clearing = ExchangeSide::DisconnectSent { cause };
+        enters(call, clearing, Few::One(disconnect))
     } else {
         stays(call, Few::Zero)
     }
@@ -83,6 +80,7 @@ pub fn clears_exchange(call: Call, cause: Cause) -> ExchangeMove
 pub fn retries(call: Call, channel: u8) -> ExchangeMove
     ensures setup_on_the_other_channel { λ r. ⌜ exchangeMoveOf r ≡ retrying call channel ⌝ }
 {
+    let refused = call.channel;
     ExchangeMove {
         side: ExchangeSide::SetupSent,
         reference: CallReference {
@@ -91,7 +89,7 @@ pub fn retries(call: Call, channel: u8) -> ExchangeMove
         },
         channel,
         seized: Some(channel),
-        released: Some(call.channel),
+        released: Some(refused),
         timer: timer_of(ExchangeSide::SetupSent),
         sent: Few::One(setup_on(channel, call.digits)),
     }

@@ -29,6 +29,7 @@ pub use sip::keeps;
 pub use sip::leaves_sip;
 pub use sip::responds;
 pub use telling::answers_setup;
+pub use telling::rejection;
 pub use telling::setup_on;
 pub use telling::tell;
 pub use telling::tell_cause;

@@ -101,13 +101,11 @@ pub fn responds(status: u16, side: SipSide) -> SipMove
             transaction,
             dialogue: _,
         } => {
-            becomes(
-                side,
-                Few::One(SipMessage::Response {
-                    transaction,
-                    status,
-                }),
-            )
+            let response = SipMessage::Response {
+                transaction,
+                status,
+            };
+            becomes(side, Few::One(response))
         }
         other => becomes(other, Few::Zero),
     }

@@ -1,7 +1,8 @@
 //! Messages to the exchange.
 ghost use mathlib.Core.Path.{_≡_};
 ghost use Rattle.calls.specs.Effects.{turned as turnedRound, said as saying, exclusively as thatAlone, tell as telling, tellCause, tellProgress, setupOn};
-ghost use Rattle.moves.specs.Answering.{answeringSetup};
+ghost use Rattle.moves.specs.Answering.{answeringSetup, rejecting};
+use crate::clearing::ours;
 use calls::Call;
 use calls::Digits;
 use messages::CallReference;
@@ -100,4 +101,18 @@ pub fn answers_setup(kind: MessageType, reference: CallReference, channel: u8) -
     ensures message_with_the_channel { λ r. ⌜ r ≡ answeringSetup kind reference channel ⌝ }
 {
     said(kind, turned(reference), None, exclusively(channel), None)
+}
+
+/// RELEASE COMPLETE with a cause of the gateway's own, to a message that makes or finds no call.
+pub fn rejection(reference: CallReference, value: u8) -> Message<Digits>
+    ensures release_complete_with_the_cause { λ r. ⌜ r ≡ rejecting reference value ⌝ }
+{
+    let reason = Some(ours(value));
+    said(
+        MessageType::ReleaseComplete,
+        turned(reference),
+        reason,
+        None,
+        None,
+    )
 }

@@ -43,7 +43,10 @@ fn sip_name(side: SipSide) -> &'static str {
     match side {
         SipSide::None => "none",
         SipSide::InviteSent { told: _ } => "invite-sent",
-        SipSide::InviteUnanswered { transaction: _, dialogue: _ } => "invite-unanswered",
+        SipSide::InviteUnanswered {
+            transaction: _,
+            dialogue: _,
+        } => "invite-unanswered",
         SipSide::Up { dialogue: _ } => "up",
         SipSide::CancelSent => "cancel-sent",
     }
@@ -135,7 +138,10 @@ fn show_sip<W: fmt::Write>(message: SipMessage, f: &mut fmt::Formatter<W>) -> fm
         SipMessage::Cancel { number } => write!(f, " CANCEL:{number}"),
         SipMessage::Ack { number, dialogue } => write!(f, " ACK:{number}:{dialogue}"),
         SipMessage::Bye { dialogue } => write!(f, " BYE:{dialogue}"),
-        SipMessage::Response { transaction, status } => write!(f, " {status}:{transaction}"),
+        SipMessage::Response {
+            transaction,
+            status,
+        } => write!(f, " {status}:{transaction}"),
     }
 }
 

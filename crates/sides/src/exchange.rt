@@ -32,12 +32,8 @@ pub fn is_unreleased(side: ExchangeSide) -> bool
     ensures neither_over_nor_releasing { λ r. ⌜ r ≡ isUnreleased side ⌝ }
 {
     match side {
-        ExchangeSide::Over => false,
-        ExchangeSide::ReleaseSent {
-            cause: _,
-            repeated: _,
-        } => false,
-        _ => true,
+        ExchangeSide::DisconnectSent { cause: _ } => true,
+        other => is_uncleared(other),
     }
 }
 

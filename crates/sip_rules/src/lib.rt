@@ -8,6 +8,7 @@ mod ringing;
 
 pub use ending::leaves;
 pub use ending::on_cancel_expiry;
+pub use invite::dialling_refusal;
 pub use invite::invited;
 pub use number::following;
 pub use response::accepts;

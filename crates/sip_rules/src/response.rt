@@ -50,10 +50,9 @@ fn fails(call: Call, cause: Cause) -> Effect
 pub fn ack_and_bye(number: u64, dialogue: u64) -> Few<SipMessage>
     ensures acknowledged_and_ended { λ r. ⌜ listed r ≡ ackAndBye number dialogue ⌝ }
 {
-    Few::Two(
-        SipMessage::Ack { number, dialogue },
-        SipMessage::Bye { dialogue },
-    )
+    let ack = SipMessage::Ack { number, dialogue };
+    let bye = SipMessage::Bye { dialogue };
+    Few::Two(ack, bye)
 }
 
 /// The INVITE is answered: CONNECT to the exchange, ACK to SIP.
