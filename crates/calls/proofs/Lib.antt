@@ -3,6 +3,7 @@ pub mod Balance
 pub mod Locals
 pub mod Places
 pub mod Choices
+pub mod Dids
 pub mod Steps
 pub mod Runs
 pub mod Histories

@@ -29,7 +29,7 @@ use Rattle.pools.specs.declared.channel.ChannelState.{ChannelState}
 use Rattle.pools.specs.States.{seized, after-any}
 use Rattle.calls.specs.Words.{named, isNamed, holds, owes, owesFrom, onCall, sumOf, one-if, finalsIn, byeIn, connectsIn, holdsDialogue, isIn, isInviteSent}
 use Rattle.calls.specs.Effects.{Effect}
-use Rattle.calls.specs.Rules.{Event, Exchange, Invite, Cancel, Bye, Response, Expiry, CancelExpiry, TakeExchange, TakeSip, State, Choice, Fair, Outcome, Refuse, Reply, Move, TookExchange, TookSip, outcome, applied, first, shown, freed}
+use Rattle.calls.specs.Rules.{Event, Exchange, Invite, Cancel, Bye, Response, Expiry, CancelExpiry, TakeExchange, TakeSip, State, Choice, Fair, Outcome, Refuse, Reply, Move, TookExchange, TookSip, outcome, applied, first, freed}
 use Rattle.calls.specs.Run.{Happening, happened, Opening, Run, opened, stepped}
 use Rattle.calls.specs.Laws.{Laws, seizures, releases, holders, owing, keepers, inviting, invitesTaken, finalsSent, setupsTaken, connectsSent, asks, lastDialogue, isUnended, comes, sends, parts, Stands, listed, exchangeSent, exchangeGone, sipSent, sipGone}
 use Rattle.calls.proofs.Moves.{Linked}

@@ -262,10 +262,6 @@ abbrev pub freed : Option ℕ → States → States
 freed None s k = s k
 freed (Some c) s k = after-release (seized (s c)) c s k
 
--- the channels after a step: first the one is seized, then the other released
-abbrev pub shown : States → Option ℕ → Option ℕ → States
-shown s took gave k = freed gave (after-any took s) k
-
 -- numbers have 64 bits, and none is used twice
 abbrev pub following : Bool → Option ℕ → Option ℕ
 following false next = next
@@ -294,10 +290,19 @@ abbrev pub sending : State → List (Message Digits) → List SipMessage → Sta
 sending st ms ss =
     record { table = st .table; pool = st .pool; exchange = st .exchange ++ ms; sip = st .sip ++ ss; exchangePlaces = st .exchangePlaces; sipPlaces = st .sipPlaces; next = st .next; full = st .full }
 
--- the gateway after an effect at place i
+-- the gateway with a channel seized, if there is one to seize
+abbrev pub seizing : State → Option ℕ → State
+seizing st took =
+    record { table = st .table; pool = after-any took (st .pool); exchange = st .exchange; sip = st .sip; exchangePlaces = st .exchangePlaces; sipPlaces = st .sipPlaces; next = st .next; full = st .full }
+
+-- an effect at place i whose channel is seized already: the other is released, the messages wait, a number may be used up
+abbrev pub settled : State → ℕ → Effect → State
+settled st i e =
+    record { table = set (st .table) i (e .after); pool = freed (e .released) (st .pool); exchange = st .exchange ++ e .exchange; sip = st .sip ++ e .sip; exchangePlaces = st .exchangePlaces; sipPlaces = st .sipPlaces; next = following (e .numbered) (st .next); full = st .full }
+
+-- the gateway after an effect at place i: first the one channel is seized, then the other released
 abbrev pub changed : State → ℕ → Effect → State
-changed st i e =
-    record { table = set (st .table) i (e .after); pool = shown (st .pool) (e .seized) (e .released); exchange = st .exchange ++ e .exchange; sip = st .sip ++ e .sip; exchangePlaces = st .exchangePlaces; sipPlaces = st .sipPlaces; next = following (e .numbered) (st .next); full = st .full }
+changed st i e = settled (seizing st (e .seized)) i e
 
 abbrev pub lessExchange : State → State
 lessExchange st =

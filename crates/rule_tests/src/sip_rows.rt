@@ -5,12 +5,14 @@ use calls::ExchangeSide;
 use calls::SipSide;
 use calls::Told;
 use exchange_rules::begins;
+use exchange_rules::is_misdialled;
 use messages::CallReference;
 use messages::Elements;
 use messages::Message;
 use messages::MessageType;
 use messages::Part;
 use sip_rules::accepts;
+use sip_rules::dialling_refusal;
 use sip_rules::following;
 use sip_rules::invited;
 use sip_rules::leaves;
@@ -601,6 +603,42 @@ fn a_setup_makes_a_call(rt: LibcRuntime) -> Result<(), Fail> {
         line.as_str(),
         "collecting none channel=7 digits=0 seized=7 released=- timer=T302 tc=no SETUP-ACKNOWLEDGE:1:5:channel=7",
     )
+}
+
+#[test]
+fn digits_of_an_invite() -> Result<(), Fail> {
+    check_eq(dialling_refusal(b""), Some(484))?;
+    check_eq(dialling_refusal(b"012345678901234567890"), Some(404))?;
+    check_eq(dialling_refusal(b"12a"), Some(404))?;
+    check_eq(dialling_refusal(b"01234567890123456789"), None)?;
+    check_eq(dialling_refusal(b"*#"), None)
+}
+
+fn is_rejected(complete: bool, octets: &'static [u8]) -> bool {
+    let digits = Some(Part { place: 0, octets });
+    let elements = Elements {
+        complete,
+        cause: None,
+        channel: None,
+        progress: None,
+        digits,
+    };
+    is_misdialled(Message {
+        reference: CallReference {
+            flag: false,
+            number: 5,
+        },
+        kind: MessageType::Setup,
+        elements,
+    })
+}
+
+#[test]
+fn digits_of_a_setup() -> Result<(), Fail> {
+    check(is_rejected(false, b"012345678901234567890"))?;
+    check(is_rejected(true, b""))?;
+    check(!is_rejected(false, b""))?;
+    check(!is_rejected(true, b"01234567890123456789"))
 }
 
 #[test]
