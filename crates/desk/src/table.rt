@@ -8,9 +8,9 @@ ghost use Rattle.desk.specs.Tokens.{tokenOf};
 ghost use Rattle.desk.specs.Records.{holding, held, isHolding, admits, answered, afterEntering, Enters, left};
 use crate::key::Key;
 use crate::key::is_keyed;
-use crate::key::is_over;
 use crate::token::Token;
 use calls::Call;
+use sides::is_over;
 
 /// A call that was looked for, and its place in the table.
 #[derive(Clone, Copy)]
