@@ -1,22 +1,12 @@
 -- What a step keeps at the one place of the table that it changes.
-use Rattle.std.proofs.Common.{◌≡◌, ℕ, zero, suc, ◌+◌, ◌-◌, ◌<◌, ◌≤◌, Bool, true, false, cond, not, ◌&&◌, ◌||◌, eqb, ltb, leb, ◌⊎◌, List, [], ◌∷◌, ◌++◌, length, get_or, set, replicate, Some, None, Option, sym, refl, ap, ◌∙◌, subst, inl, inr, ⊎_elim, arith}
+use Rattle.std.proofs.Common.{◌≡◌, ℕ, ◌+◌, ◌≤◌, true, false, cond, Some, None, Option, sym, ap, ◌∙◌, arith}
 use Rattle.std.proofs.lemmas.Bool.Decides.{nat_tests}
-use Rattle.messages.specs.declared.kind.MessageType.{MessageType}
-use Rattle.messages.specs.declared.record.CallReference.{CallReference}
-use Rattle.messages.specs.declared.record.Cause.{Cause}
-use Rattle.messages.specs.declared.record.Channel.{Channel}
-use Rattle.messages.specs.declared.record.Message.{Message}
-use Rattle.messages.specs.Elements.{Digits as Heard}
-use Rattle.calls.specs.declared.answers.Timer.{Timer}
-use Rattle.calls.specs.declared.outgoing.SipMessage.{SipMessage}
 use Rattle.calls.specs.declared.record.Call.{Call}
 use Rattle.calls.specs.declared.record.Digits.{Digits}
-use Rattle.calls.specs.declared.sides.ExchangeSide.{ExchangeSide}
 use Rattle.calls.specs.declared.sides.SipSide.{SipSide}
-use Rattle.calls.specs.declared.sides.Told.{Told}
 use Rattle.std.proofs.lemmas.Bool.{cond_both}
 use Rattle.pools.specs.States.{States, idle}
-use Rattle.calls.specs.Words.{stage, is_over, sip_stage, is_gone, holds, owes, owes_from, on_call, named, one_if, connects_in, finals_in, bye_in}
+use Rattle.calls.specs.Words.{is_over, sip_stage, is_gone, holds, owes, owes_from, on_call, named, connects_in, finals_in, bye_in}
 use Rattle.calls.specs.Standing.{fits, SoundAt}
 use Rattle.calls.specs.Effects.{ExchangeMove, SipMove, Effect, unless_gone, moved_call, redialled}
 use Rattle.calls.specs.Rules.{Event, Exchange, Invite, Cancel, Bye, Response, Expiry, CancelExpiry, TakeExchange, TakeSip}

@@ -1,17 +1,14 @@
 -- How a step of the code comes to what the rules say.
-use Rattle.std.proofs.Common.{◌≡◌, ℕ, ◌-◌, ◌≤◌, Bool, true, false, cond, ◌&&◌, leb, List, [], ◌∷◌, ◌++◌, length, drop, set, Some, None, Ok, Err, Option, sym, refl, ap, ◌∙◌, arith, MatchOption}
+use Rattle.std.proofs.Common.{◌≡◌, ℕ, ◌≤◌, true, false, ◌&&◌, leb, List, [], ◌∷◌, ◌++◌, drop, set, Some, None, Ok, Err, Option, sym, refl, ap, ◌∙◌, arith, MatchOption}
 use Rattle.std.proofs.lemmas.Bool.{cond-true, cond-false}
 use Rattle.std.proofs.lemmas.Bool.Decides.{nat_tests}
 use Rattle.refusals.specs.declared.Ground.{Ground}
-use Rattle.messages.specs.declared.record.Message.{Message}
 use Rattle.pools.specs.States.{States, after_any, known}
 use Rattle.calls.specs.declared.answers.Answer.{Answer}
 use Rattle.calls.specs.declared.answers.Refused.{Refused}
 use Rattle.calls.specs.declared.answers.Report.{Report}
-use Rattle.calls.specs.declared.outgoing.SipMessage.{SipMessage}
-use Rattle.calls.specs.declared.record.Digits.{Digits}
 use Rattle.calls.specs.Effects.{Effect}
-use Rattle.calls.specs.Rules.{State, Choice, Fair, Outcome, Refuse, Reply, Move, refuse, Did, is_roomy, roomed, answer_of, applied, reported, freed, following, settled, first}
+use Rattle.calls.specs.Rules.{State, Choice, Fair, Outcome, Refuse, Move, refuse, Did, is_roomy, roomed, answer_of, applied, reported, freed, following, settled, first}
 use Rattle.calls.proofs.Choices.{Bounded, fair_choice}
 
 module _ (st : State) where

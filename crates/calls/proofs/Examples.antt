@@ -1,6 +1,5 @@
 -- The collisions, each step with a channel that is idle and a place that is free.
-use Rattle.std.proofs.Common.{◌≡◌, ℕ, Bool, true, false, cond, eqb, List, [], ◌∷◌, ◌++◌, Some, None, refl, arith, lit≤}
-use Rattle.std.proofs.lemmas.Bool.Decides.{nat_tests}
+use Rattle.std.proofs.Common.{◌≡◌, ℕ, Bool, true, false, cond, eqb, List, [], ◌∷◌, ◌++◌, Some, None, refl, lit≤}
 use Rattle.messages.specs.Laws.{setup417_octets}
 use Rattle.messages.proofs.RoundTrip.{layout_examples}
 use Rattle.pools.specs.declared.channel.ChannelState.TheVariants.{Unknown, Idle, Seized}

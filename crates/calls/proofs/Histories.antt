@@ -3,9 +3,9 @@ use Rattle.std.proofs.Common.{◌≡◌, ℕ, List, [], ◌∷◌, ◌++◌, map
 use mathlib.Core.List.{reverse-cons}
 use Rattle.std.proofs.lemmas.List.{map-append}
 use Rattle.calls.specs.declared.answers.Answer.{Answer}
-use Rattle.calls.specs.Rules.{Event, State, Choice, Fair, Stepped, Stepping, standing, onward, outcome, applied}
-use Rattle.calls.specs.Run.{Happening, happened, Run, opened, stepped, Opening, Tells}
-use Rattle.calls.specs.Laws.{Laws, Passed, Longer, RunLaw, RunsOn, RunsCompose}
+use Rattle.calls.specs.Rules.{Event, State, Stepped, Stepping, standing, onward, outcome, applied}
+use Rattle.calls.specs.Run.{Happening, happened, Run, opened, stepped, Tells}
+use Rattle.calls.specs.Laws.{RunLaw, RunsOn, RunsCompose}
 use Rattle.calls.proofs.Runs.{run_laws}
 
 -- the events met so far and what came of each

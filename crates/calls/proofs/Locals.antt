@@ -1,10 +1,8 @@
 -- The rules of one call keep the balance.
-use Rattle.std.proofs.Common.{◌≡◌, ℕ, zero, suc, ◌+◌, ◌-◌, ◌<◌, ◌≤◌, Bool, true, false, cond, not, ◌&&◌, ◌||◌, eqb, ltb, leb, ◌⊎◌, List, [], ◌∷◌, ◌++◌, length, get_or, set, replicate, Some, None, Option, sym, refl, ap, ◌∙◌, subst, inl, inr, ⊎_elim, arith}
+use Rattle.std.proofs.Common.{◌≡◌, ℕ, ◌<◌, ◌≤◌, Bool, true, false, cond, ◌&&◌, ◌||◌, eqb, leb, ◌⊎◌, List, [], ◌∷◌, Some, None, Option, sym, refl, ap, ◌∙◌, inl, inr, arith}
 use Rattle.std.proofs.lemmas.Bool.Decides.{nat_tests}
 use Rattle.messages.specs.declared.kind.MessageType.{MessageType}
-use Rattle.messages.specs.declared.record.CallReference.{CallReference}
 use Rattle.messages.specs.declared.record.Cause.{Cause}
-use Rattle.messages.specs.declared.record.Channel.{Channel}
 use Rattle.messages.specs.declared.record.Message.{Message}
 use Rattle.messages.specs.Elements.{Digits as Heard}
 use Rattle.calls.specs.declared.answers.Timer.{Timer}
@@ -18,8 +16,8 @@ use Rattle.pools.specs.States.{States, idle}
 use Rattle.std.proofs.lemmas.Bool.{cond_both, eqb-true}
 use Rattle.causes.proofs.Rows.{final_failure}
 use Rattle.pools.specs.States.{AnyWasIdle}
-use Rattle.calls.specs.Words.{stage, is_in, from_to, is_over, is_uncleared, is_unreleased, timer_of, is_running, sent_cause, is_repeated, sip_stage, is_invite_sent, is_cancel_sent, awaits_response, is_unanswered, is_held_by, owes_from, named, connects_in}
-use Rattle.calls.specs.Effects.{ExchangeMove, SipMove, Effect, redialled, moved, stays, enters, ends, clears_exchange, retries, releases, becomes, clears_from, clears_sip, keeps, invites, number_of, responds_from, answers_from, leaves_from, Ruling, Refuses, Does, only, tell, tell_cause, ours, code, is_unavailable, is_too_many, is_nothing, is_whole, is_empty_whole, meant, recorded, joined, proceeds, spurns, collects, tries_again, disconnected, released, completed, on_type, gives_up, on_timer, on_expiry, on_cancel_expiry, rests, announces, alerts, progresses, rings, provisional, fails, ack_and_bye, accepts, leaves}
+use Rattle.calls.specs.Words.{stage, is_in, from_to, is_over, is_unreleased, is_running, sent_cause, is_repeated, sip_stage, is_invite_sent, is_cancel_sent, awaits_response, is_unanswered, is_held_by, named}
+use Rattle.calls.specs.Effects.{ExchangeMove, SipMove, Effect, redialled, moved, stays, enters, ends, clears_exchange, retries, becomes, clears_from, clears_sip, keeps, number_of, responds_from, answers_from, leaves_from, Ruling, Refuses, Does, only, tell, tell_cause, ours, code, is_unavailable, is_too_many, is_nothing, is_whole, is_empty_whole, meant, recorded, joined, proceeds, spurns, collects, tries_again, completed, on_type, gives_up, on_timer, on_expiry, on_cancel_expiry, rests, announces, progresses, provisional, fails, ack_and_bye, accepts, leaves}
 use Rattle.calls.specs.Rules.{Event, Cancel, Bye, Response}
 use Rattle.calls.proofs.Moves.{ExchangeLaw, SipLaw, Quiet, Mute, stays_law, ends_law, enters_law, clears_law, retries_law, keeps_law, clears_sip_lem, tells_sip, answers_sip, cancels_sip, byes_sip, offs_sip, invites_sip}
 use Rattle.calls.specs.Standing.{fits}

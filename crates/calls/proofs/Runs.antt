@@ -1,28 +1,21 @@
 -- Every run keeps the laws.
-use Rattle.std.proofs.Common.{◌≡◌, ℕ, zero, suc, ◌+◌, ◌-◌, ◌<◌, ◌≤◌, Bool, true, false, cond, not, ◌&&◌, ◌||◌, eqb, ltb, leb, ◌⊎◌, List, [], ◌∷◌, ◌++◌, length, get_or, drop, set, replicate, Some, None, Option, sym, refl, ap, ◌∙◌, subst, inl, inr, ⊎_elim, append_assoc, append-nil, arith}
+use Rattle.std.proofs.Common.{◌≡◌, ℕ, zero, suc, ◌+◌, ◌<◌, ◌≤◌, Bool, true, false, cond, not, ◌&&◌, ◌||◌, eqb, ◌⊎◌, List, [], ◌∷◌, ◌++◌, length, get_or, drop, set, Some, None, Option, sym, refl, ap, ◌∙◌, subst, inl, inr, ⊎_elim, append_assoc, append-nil, arith}
 use Rattle.std.proofs.lemmas.Bool.Decides.{nat_tests}
-use Rattle.messages.specs.declared.kind.MessageType.{MessageType}
-use Rattle.messages.specs.declared.record.CallReference.{CallReference}
-use Rattle.messages.specs.declared.record.Cause.{Cause}
-use Rattle.messages.specs.declared.record.Channel.{Channel}
 use Rattle.messages.specs.declared.record.Message.{Message}
-use Rattle.messages.specs.Elements.{Digits as Heard}
-use Rattle.calls.specs.declared.answers.Timer.{Timer}
 use Rattle.calls.specs.declared.outgoing.SipMessage.{SipMessage}
 use Rattle.calls.specs.declared.record.Call.{Call}
 use Rattle.calls.specs.declared.record.Digits.{Digits}
 use Rattle.calls.specs.declared.sides.ExchangeSide.{ExchangeSide}
 use Rattle.calls.specs.declared.sides.SipSide.{SipSide}
-use Rattle.calls.specs.declared.sides.Told.{Told}
 use Rattle.pools.specs.States.{States, idle}
 use Rattle.std.proofs.lemmas.Bool.{cond_both, cond-true, eq-eqb, eqb-true}
 use Rattle.pools.specs.declared.channel.ChannelState.{ChannelState}
 use Rattle.pools.specs.States.{seized, after_any}
-use Rattle.calls.specs.Words.{named, is_named, holds, owes, owes_from, on_call, sum_of, one_if, finals_in, bye_in, connects_in, holds_dialogue, is_in, is_invite_sent}
+use Rattle.calls.specs.Words.{named, is_named, holds, owes, owes_from, on_call, sum_of, one_if, bye_in, holds_dialogue, is_in, is_invite_sent}
 use Rattle.calls.specs.Effects.{Effect}
-use Rattle.calls.specs.Rules.{Event, Exchange, Invite, Cancel, Bye, Response, Expiry, CancelExpiry, TakeExchange, TakeSip, State, Choice, Fair, Outcome, Refuse, Reply, Move, TookExchange, TookSip, outcome, applied, first, freed}
+use Rattle.calls.specs.Rules.{Event, Exchange, Invite, Cancel, Bye, Response, Expiry, CancelExpiry, TakeExchange, TakeSip, State, Outcome, Refuse, Reply, Move, TookExchange, TookSip, outcome, applied, first, freed}
 use Rattle.calls.specs.Run.{Happening, happened, Opening, Run, opened, stepped}
-use Rattle.calls.specs.Laws.{Laws, seizures, releases, holders, owing, keepers, inviting, invites_taken, finals_sent, setups_taken, connects_sent, asks, last_dialogue, is_unended, comes, sends, parts, Stands, listed, exchange_sent, exchange_gone, sip_sent, sip_gone}
+use Rattle.calls.specs.Laws.{Laws, seizures, releases, holders, owing, inviting, invites_taken, finals_sent, setups_taken, connects_sent, asks, last_dialogue, is_unended, comes, sends, parts, Stands, listed, exchange_sent, exchange_gone, sip_sent, sip_gone}
 use Rattle.calls.proofs.Moves.{Linked}
 use Rattle.calls.specs.Standing.{Everywhere, fits, SoundAt}
 use Rattle.calls.proofs.Balance.{Balanced, LinkedAt, PresentAt, talks_call, may_connect, Asked}

@@ -1,30 +1,24 @@
 -- Every step keeps the balance at the place that it changes.
-use Rattle.std.proofs.Common.{◌≡◌, ℕ, zero, suc, ◌+◌, ◌-◌, ◌<◌, ◌≤◌, Bool, true, false, cond, not, ◌&&◌, ◌||◌, eqb, ltb, leb, ◌⊎◌, List, [], ◌∷◌, ◌++◌, length, get_or, set, replicate, Some, None, Ok, Err, Option, Result, sym, refl, ap, ◌∙◌, subst, inl, inr, ⊎_elim, arith, MatchOption}
+use Rattle.std.proofs.Common.{◌≡◌, ℕ, ◌<◌, ◌≤◌, Bool, true, false, ◌&&◌, ◌||◌, eqb, leb, List, [], ◌∷◌, length, get_or, Some, None, Ok, Err, Option, Result, sym, refl, ap, ◌∙◌, subst, arith, MatchOption}
 use Rattle.std.proofs.lemmas.Bool.Decides.{nat_tests}
 use Rattle.messages.specs.declared.kind.MessageType.{MessageType}
 use Rattle.messages.specs.declared.record.CallReference.{CallReference}
-use Rattle.messages.specs.declared.record.Cause.{Cause}
 use Rattle.messages.specs.declared.record.Channel.{Channel}
 use Rattle.messages.specs.declared.record.Message.{Message}
 use Rattle.messages.specs.Elements.{Digits as Heard}
-use Rattle.calls.specs.declared.answers.Timer.{Timer}
 use Rattle.calls.specs.declared.outgoing.SipMessage.{SipMessage}
 use Rattle.calls.specs.declared.record.Call.{Call}
 use Rattle.calls.specs.declared.record.Digits.{Digits}
-use Rattle.calls.specs.declared.sides.ExchangeSide.{ExchangeSide}
-use Rattle.calls.specs.declared.sides.SipSide.{SipSide}
-use Rattle.calls.specs.declared.sides.Told.{Told}
 use Rattle.pools.specs.States.{States, idle}
 use Rattle.std.proofs.lemmas.Bool.{cond_both, eqb-true, and_parts}
-use Rattle.refusals.specs.declared.Ground.{Ground}
 use Rattle.messages.specs.declared.record.Misread.{Misread}
 use Rattle.messages.specs.Elements.{all_digits}
 use Rattle.messages.specs.Reading.{decoded}
-use Rattle.messages.specs.Types.{code_of, is_setup}
+use Rattle.messages.specs.Types.{is_setup}
 use Rattle.pools.specs.States.{AnyWasIdle}
-use Rattle.calls.specs.Words.{stage, is_over, sip_stage, is_no_sip, awaits_response, is_unanswered, owes, holds_dialogue, sum_of, one_if, named, connects_in}
-use Rattle.calls.specs.Effects.{Effect, Ruling, Refuses, Does, heard_digits, is_too_many, is_nothing, is_whole, is_empty_whole, cause_for, said, setup_on, on_type, on_expiry, on_cancel_expiry, provisional, fails, accepts, ack_and_bye, leaves, made, setup_call, answers_setup, begins_proceeding, begins_collecting, begins, invited}
-use Rattle.calls.specs.Rules.{Event, Exchange, Invite, Cancel, Bye, Response, Expiry, CancelExpiry, TakeExchange, TakeSip, State, Choice, Fair, FreePlace, Outcome, Refuse, Reply, Move, TookExchange, TookSip, refuse, Found, seek, by_reference, is_number, by_number, by_live_number, by_awaited_number, by_transaction, at, at_call, rejects, takes_any, wishes, seats, on_setup, uncalled, on_message, responds, calls_out, dials, on_invite, on_leave, another, on_ok, on_other, on_response, is_roomy, roomed, on_heard, is_status, outcome}
+use Rattle.calls.specs.Words.{is_over, awaits_response, owes, holds_dialogue, sum_of, one_if, named}
+use Rattle.calls.specs.Effects.{Effect, Ruling, Refuses, Does, heard_digits, is_too_many, is_nothing, is_whole, is_empty_whole, cause_for, on_expiry, on_cancel_expiry, ack_and_bye, leaves, begins_proceeding, begins_collecting, begins, invited}
+use Rattle.calls.specs.Rules.{Event, Exchange, Invite, Cancel, Bye, Response, Expiry, CancelExpiry, TakeExchange, TakeSip, State, Choice, Fair, FreePlace, Outcome, Refuse, Reply, Move, TookExchange, TookSip, Found, seek, by_reference, is_number, by_number, by_live_number, by_awaited_number, by_transaction, at, at_call, rejects, takes_any, wishes, seats, on_setup, uncalled, on_message, responds, calls_out, dials, on_invite, another, on_ok, on_other, on_response, is_roomy, roomed, on_heard, is_status, outcome}
 use Rattle.calls.specs.Laws.{inviting, bringing, brings}
 use Rattle.calls.proofs.Moves.{Quiet, Mute}
 use Rattle.calls.specs.Standing.{Everywhere, fits, SoundAt}

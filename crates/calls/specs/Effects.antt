@@ -15,7 +15,7 @@ use Rattle.calls.specs.declared.record.Digits.{Digits}
 use Rattle.calls.specs.declared.sides.ExchangeSide.{ExchangeSide}
 use Rattle.calls.specs.declared.sides.SipSide.{SipSide}
 use Rattle.calls.specs.declared.sides.Told.{Told}
-use Rattle.calls.specs.Words.{is_in, from_to, is_over, is_uncleared, is_unreleased, timer_of, is_running, sent_cause, is_repeated, is_invite_sent, is_cancel_sent, is_gone}
+use Rattle.calls.specs.Words.{is_in, from_to, is_uncleared, is_unreleased, timer_of, is_running, sent_cause, is_repeated, is_invite_sent, is_cancel_sent, is_gone}
 
 -- ---------------------------------------------------------------- digits
 -- the digits of a record

@@ -1,7 +1,6 @@
 -- Collisions, step by step: the events, the answer of each, and the messages as they are taken.
 use Rattle.std.specs.Prelude.{◌≡◌, ℕ, true, false, cond, ◌||◌, List, [], ◌∷◌, replicate, Some, None, Ok, Option, ◌==◌}
 use Rattle.messages.specs.declared.kind.MessageType.{MessageType}
-use Rattle.messages.specs.declared.record.CallReference.{CallReference}
 use Rattle.messages.specs.declared.record.Message.{Message}
 use Rattle.messages.specs.Laws.{setup417_octets, LayoutExamples}
 use Rattle.causes.specs.Examples.{CauseExamples}

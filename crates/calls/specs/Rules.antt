@@ -71,7 +71,7 @@ pub data Outcome : Type 0 where
   TookSip : Outcome
 
 -- refused on a ground that has no place in the octets
-abbrev pub refuse : Ground → Outcome
+abbrev pub refuse : (ground : Ground) → Outcome
 refuse g = Refuse (record { ground = g; place = None })
 
 -- ---------------------------------------------------------------- searches

@@ -1,7 +1,5 @@
 -- The words of a call: where its two sides stand, which timer runs, what it holds and owes; and what a message is to the counts.
-use Rattle.std.specs.Prelude.{ℕ, ◌+◌, Bool, true, false, cond, not, ◌&&◌, ◌||◌, List, [], ◌∷◌, Some, None, Option, ◌==◌, nat_le}
-use Rattle.messages.specs.declared.kind.MessageType.{MessageType}
-use Rattle.messages.specs.declared.record.CallReference.{CallReference}
+use Rattle.std.specs.Prelude.{ℕ, ◌+◌, Bool, false, cond, ◌&&◌, ◌||◌, List, [], ◌∷◌, Some, None, Option, ◌==◌, nat_le}
 use Rattle.messages.specs.declared.record.Cause.{Cause}
 use Rattle.messages.specs.declared.record.Message.{Message}
 use Rattle.messages.specs.Types.{code_of}

@@ -1,5 +1,7 @@
 //! The calls of a gateway between a QSIG exchange and a SIP network: their records, the rules of every step as definitions
 //! (in specs/), runs of steps, and the laws that every run keeps.
+#![tactic(auto)]
+
 mod answers;
 mod laws;
 mod outgoing;

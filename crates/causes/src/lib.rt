@@ -1,4 +1,6 @@
 // Q.850 causes of QSIG clearing and SIP statuses, each turned into the other by a constant table.
+#![tactic(auto)]
+
 ghost use Rattle.std.specs.Prelude.{◌≡◌, ◌≤◌, true};
 ghost use Rattle.causes.specs.Mapping.{status_rows, second_of, Between, status_of, location_of, cause_of, counted_cause};
 ghost use Rattle.causes.specs.Examples.{CauseExamples};

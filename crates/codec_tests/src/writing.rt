@@ -339,6 +339,6 @@ fn an_element_without_room_counts_what_it_put(rt: HostRuntime) -> Result<(), Fai
         Ok(_) => return Err(Fail::new("written")),
         Err(ground) => assert_eq!(rt; ground.number(), 9),
     }
-    assert_eq!(rt; &bytes[0..4], b"\x70\x02\x801");
+    assert_eq!(rt; &bytes[0..4], b"\x70\x02\x801".as_slice());
     Ok(())
 }

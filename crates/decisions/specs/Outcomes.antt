@@ -1,5 +1,5 @@
 -- What a decision of the code stands for among the outcomes of the rules, and the parts of the rules that leave nothing open.
-use Rattle.std.specs.Prelude.{ℕ, Bool, true, false, cond, ◌&&◌, Some, None, Option}
+use Rattle.std.specs.Prelude.{ℕ, Bool, true, false, cond, ◌&&◌, List, [], Some, None, Option}
 use Rattle.refusals.specs.declared.Ground.{Ground}
 use Rattle.messages.specs.declared.kind.MessageType.{MessageType}
 use Rattle.messages.specs.declared.record.Channel.{Channel}
@@ -10,7 +10,8 @@ use Rattle.calls.specs.declared.record.Call.{Call}
 use Rattle.calls.specs.declared.sides.ExchangeSide.{ExchangeSide}
 use Rattle.calls.specs.Words.{is_in}
 use Rattle.calls.specs.Effects.{is_unavailable}
-use Rattle.calls.specs.Rules.{Outcome, Found, refuse, rejects}
+use Rattle.pools.specs.declared.channel.ChannelState.TheVariants.{Unknown}
+use Rattle.calls.specs.Rules.{Outcome, Found, State, refuse, rejects, on_response}
 use Rattle.calls.specs.Rules as rules
 use Rattle.moves.specs.Moves.{effect_of}
 use Rattle.decisions.specs.declared.decision.Decision.{Decision}
@@ -19,6 +20,14 @@ abbrev pub outcome_of : Decision → Outcome
 outcome_of (Decision.Refuse g) = refuse g
 outcome_of (Decision.Reply ms ss) = rules.Reply (listed ms) (listed ss)
 outcome_of (Decision.Move i e) = rules.Move i (effect_of e)
+
+-- these calls and nothing beside them, for a rule that asks the calls alone
+abbrev pub calls_alone : List (Option Call) → State
+calls_alone table =
+    record { table = table; pool = λ c. Unknown; exchange = []; sip = []; exchange_places = 0; sip_places = 0; next = None; full = 0 }
+
+abbrev pub responded : List (Option Call) → ℕ → ℕ → ℕ → Bool → Outcome
+responded table n s d media = on_response (calls_alone table) n s d media
 
 -- a message other than SETUP that finds no call: only RELEASE COMPLETE is not answered
 abbrev pub turned_away : Message Heard → MessageType → Outcome

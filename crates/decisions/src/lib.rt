@@ -1,5 +1,7 @@
 //! What comes of an event, decided from the table of calls alone: a refusal, an answer that touches no call, or an effect at one
 //! place. What needs a channel of the pool is decided where it is seized.
+#![tactic(auto)]
+
 mod decision;
 mod exchange;
 mod sip;

@@ -2,10 +2,10 @@
 ghost use Rattle.std.specs.Prelude.{◌≡◌, true, ◌&&◌, nat_le};
 ghost use Rattle.calls.specs.Words.{holds_dialogue};
 ghost use Rattle.calls.specs.Effects.{Does};
-ghost use Rattle.calls.specs.Rules.{seek, by_transaction, by_number, by_awaited_number, by_live_number, at_call, on_leave, another, on_ok, on_other, on_response, is_status};
+ghost use Rattle.calls.specs.Rules.{seek, by_transaction, by_number, by_awaited_number, by_live_number, at_call, on_leave, another, on_ok, on_other, is_status};
 ghost use Rattle.calls.specs.Effects.{on_cancel_expiry};
 ghost use Rattle.desk.specs.Keys.{found_of};
-ghost use Rattle.decisions.specs.Outcomes.{outcome_of, invite_refusal};
+ghost use Rattle.decisions.specs.Outcomes.{outcome_of, responded, invite_refusal};
 
 use crate::decision::{Decision, at};
 use calls::SipMessage;
@@ -101,7 +101,7 @@ fn accepted(number: u64, dialogue: u64, mine: Option<Found>) -> Decision
 
 /// A 200.
 fn on_ok(table: &Table, number: u64, dialogue: u64) -> Decision
-    ensures a_200 { outcome_of result ≡ on_response table.now.places number 200 dialogue true }
+    ensures a_200 { outcome_of result ≡ responded table.now.places number 200 dialogue true }
 {
     let mine = table.find(Key::LiveNumber(number));
     if is_another(table.find(Key::Dialogue(dialogue)), mine) {
@@ -126,7 +126,7 @@ fn awaited(status: u16, media: bool, found: Option<Found>) -> Decision
 
 /// A response with a status from 100 to 699.
 pub fn on_response(table: &Table, number: u64, status: u16, dialogue: u64, media: bool) -> Decision
-    ensures by_the_status { outcome_of result ≡ on_response table.now.places number status dialogue media }
+    ensures by_the_status { outcome_of result ≡ responded table.now.places number status dialogue media }
 {
     if status == OK {
         on_ok(table, number, dialogue)

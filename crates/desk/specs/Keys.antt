@@ -1,5 +1,5 @@
 -- The ways of looking for a call, and what is found.
-use Rattle.std.specs.Prelude.{◌≡◌, ℕ, ◌<◌, Bool, List, Some, None, Option, slice_index_or}
+use Rattle.std.specs.Prelude.{◌≡◌, ◌<◌, Bool, List, Some, None, Option, slice_index_or}
 use Rattle.calls.specs.declared.record.Call.{Call}
 use Rattle.calls.specs.Words.{holds_dialogue}
 use Rattle.calls.specs.Rules.{by_reference, by_transaction, by_number, by_live_number, by_awaited_number}

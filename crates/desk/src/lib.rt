@@ -1,5 +1,7 @@
 //! Seized channels: a token for each that stands in no call, the trunk that hands them out and takes them back, and the
 //! table of the calls that hold them. Tokens are made and spent in this crate alone.
+#![tactic(auto)]
+
 mod key;
 mod table;
 mod token;

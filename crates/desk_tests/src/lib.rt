@@ -1,4 +1,6 @@
 //! How a token goes from a trunk into a call of the table and back, over any kind of pool; and examples of it, run as tests.
+#![tactic(auto)]
+
 ghost use Rattle.std.specs.Prelude.{◌≡◌, ℕ, Some, None, slice_set};
 ghost use Rattle.pools.specs.States.{idle, after_any};
 ghost use Rattle.calls.specs.Rules.{seek};

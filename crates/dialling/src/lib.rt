@@ -1,4 +1,6 @@
 //! The digits of a called number as a record of at most 20.
+#![tactic(auto)]
+
 ghost use Rattle.std.specs.Prelude.{◌≡◌, ◌+◌, ◌≤◌, false, not, ◌++◌, length};
 ghost use Rattle.calls.specs.Effects.{recorded as recording, meant as meaning, is_nothing, is_too_many};
 ghost use Rattle.dialling.specs.Joining.{Joins};

@@ -1,4 +1,6 @@
 //! The rules of exchange events at one call: messages that find it, expiries of its timer, and the call that a SETUP makes.
+#![tactic(auto)]
+
 mod dialled;
 mod expiry;
 mod message;

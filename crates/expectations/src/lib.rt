@@ -1,4 +1,6 @@
 // A list of expected answers of the two mappings between causes and statuses, and whether they agree with it.
+#![tactic(auto)]
+
 ghost use Rattle.std.specs.Prelude.{◌≡◌};
 ghost use Rattle.causes.specs.Mapping.{status_of, cause_of};
 ghost use Rattle.expectations.specs.Expected.{expected_status, expected_cause, same_status, same_cause};

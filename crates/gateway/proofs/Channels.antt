@@ -1,9 +1,9 @@
 -- Where channels balance at a place, an effect can be applied there.
-use Rattle.std.proofs.Common.{◌≡◌, ℕ, ◌+◌, ◌<◌, ◌≤◌, Bool, true, false, cond, ◌&&◌, ◌||◌, eqb, List, [], ◌∷◌, ◌++◌, length, get_or, is_some, Some, None, Option, sym, refl, ap, ◌∙◌, subst, arith}
-use Rattle.std.proofs.lemmas.Bool.{cond-true, cond-false, cond_both, eq-eqb}
+use Rattle.std.proofs.Common.{◌≡◌, ℕ, ◌+◌, ◌<◌, true, cond, eqb, List, length, get_or, is_some, Some, None, Option, refl, ap, arith}
+use Rattle.std.proofs.lemmas.Bool.{eq-eqb}
 use Rattle.std.proofs.lemmas.Bool.Decides.{nat_tests}
 use Rattle.calls.specs.declared.record.Call.{Call}
-use Rattle.calls.specs.Words.{named, holds, on_call, is_over}
+use Rattle.calls.specs.Words.{named, holds, on_call}
 use Rattle.calls.specs.Standing.{SoundAt}
 use Rattle.calls.specs.Effects.{Effect}
 use Rattle.calls.specs.Rules.{State, Event, Outcome, Refuse, Reply, Move, TookExchange, TookSip}

@@ -1,6 +1,5 @@
 -- What an INVITE comes to before a channel is asked for.
-use Rattle.std.proofs.Common.{◌≡◌, ℕ, ◌≤◌, Bool, true, false, cond, ◌&&◌, leb, List, length, Some, None, Option, sym, refl, ap, ◌∙◌, arith}
-use Rattle.std.proofs.lemmas.Bool.Decides.{nat_tests}
+use Rattle.std.proofs.Common.{◌≡◌, ℕ, Bool, true, false, cond, ◌&&◌, leb, List, length, Some, None, Option, refl, ap, arith}
 use Rattle.refusals.specs.declared.Ground.{Ground}
 use Rattle.messages.specs.Elements.{all_digits}
 use Rattle.calls.specs.Effects.{is_nothing}

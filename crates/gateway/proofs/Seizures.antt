@@ -1,20 +1,19 @@
 -- Effects that enter a seized channel, and what the wish for one gets.
-use Rattle.std.proofs.Common.{◌≡◌, ℕ, ◌<◌, ◌≤◌, Bool, true, false, cond, ◌&&◌, eqb, List, [], ◌∷◌, length, get_or, Some, None, Option, sym, refl, ap, ◌∙◌, subst, arith}
-use Rattle.std.proofs.lemmas.Bool.{cond-true, cond-false, cond_both, eqb-true}
+use Rattle.std.proofs.Common.{◌≡◌, ℕ, ◌<◌, Bool, true, false, cond, List, length, get_or, Some, None, Option, sym, refl, ap, ◌∙◌, subst, arith}
+use Rattle.std.proofs.lemmas.Bool.{cond-false, cond_both, eqb-true}
 use Rattle.std.proofs.lemmas.Bool.Decides.{nat_tests}
 use Rattle.messages.specs.declared.record.Channel.{Channel}
 use Rattle.messages.specs.declared.record.Message.{Message}
-use Rattle.messages.specs.declared.kind.MessageType.{MessageType}
 use Rattle.messages.specs.Elements.{Digits as Heard}
-use Rattle.pools.specs.States.{States, idle, AnyWasIdle}
+use Rattle.pools.specs.States.{idle, AnyWasIdle}
 use Rattle.calls.specs.declared.record.Call.{Call}
 use Rattle.calls.specs.declared.sides.ExchangeSide.{ExchangeSide}
 use Rattle.calls.specs.Words.{stage, is_in, is_over}
-use Rattle.calls.specs.Standing.{is_sound, is_sound_at, fits, SoundAt}
+use Rattle.calls.specs.Standing.{is_sound, fits, SoundAt}
 use Rattle.calls.specs.Effects.{Effect, Ruling, Refuses, Does, tries_again, on_type, begins, invited, is_whole, heard_digits}
-use Rattle.calls.specs.Rules.{State, Choice, Fair, FreePlace, Outcome, Move, Did, TakeExchange, at, rejects, takes_any, wishes, seats, on_setup, answer_of, applied}
+use Rattle.calls.specs.Rules.{State, Outcome, Move, Did, TakeExchange, at, rejects, takes_any, wishes, seats, answer_of, applied}
 use Rattle.calls.specs.declared.answers.Answer.{Answer}
-use Rattle.calls.proofs.Choices.{Bounded, fair_pick, fair_place, fair_choice}
+use Rattle.calls.proofs.Choices.{Bounded, fair_pick, fair_place}
 use Rattle.calls.proofs.Balance.{Balanced}
 use Rattle.calls.proofs.Dids.{did}
 use Rattle.calls.proofs.Locals.{Keeps, tries_again_lem, on_type_lem}

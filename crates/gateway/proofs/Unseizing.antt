@@ -1,5 +1,5 @@
 -- Rules that seize no channel, and those that leave nothing open.
-use Rattle.std.proofs.Common.{◌≡◌, ℕ, Bool, true, false, cond, not, ◌&&◌, ◌||◌, eqb, leb, List, [], ◌∷◌, ◌++◌, Some, None, Option, sym, refl, ap, ◌∙◌, arith}
+use Rattle.std.proofs.Common.{◌≡◌, ℕ, Bool, true, false, cond, ◌&&◌, ◌||◌, eqb, leb, List, Some, None, Option, sym, refl, ap, ◌∙◌, arith}
 use Rattle.std.proofs.lemmas.Bool.{cond-true, cond-false, cond_both}
 use Rattle.messages.specs.declared.kind.MessageType.{MessageType}
 use Rattle.messages.specs.declared.record.Cause.{Cause}
@@ -8,14 +8,13 @@ use Rattle.messages.specs.Elements.{Digits as Heard}
 use Rattle.messages.specs.Types.{is_setup}
 use Rattle.calls.specs.declared.answers.Timer.{Timer}
 use Rattle.calls.specs.declared.record.Call.{Call}
-use Rattle.calls.specs.declared.record.Digits.{Digits}
 use Rattle.calls.specs.declared.sides.ExchangeSide.{ExchangeSide}
 use Rattle.calls.specs.declared.sides.SipSide.{SipSide}
 use Rattle.calls.specs.declared.sides.Told.{Told}
 use Rattle.calls.specs.Words.{is_in, is_uncleared, is_unreleased, is_running, is_repeated, is_invite_sent, is_cancel_sent, holds_dialogue}
-use Rattle.calls.specs.Effects.{Effect, ExchangeMove, Ruling, Refuses, Does, only, clears_exchange, ours, code, cause_for, is_unavailable, is_too_many, is_empty_whole, is_whole, is_nothing, meant, joined, collects, tries_again, completed, on_type, on_timer, on_expiry, on_cancel_expiry, progresses, rings, provisional, fails, accepts}
-use Rattle.calls.specs.Rules.{State, Choice, Outcome, Move, Found, at, at_call, another, on_leave, on_ok, on_other, on_response, uncalled, on_setup, seek, by_live_number, by_awaited_number}
-use Rattle.decisions.specs.Outcomes.{turned_away, is_release_complete, wants_another}
+use Rattle.calls.specs.Effects.{Effect, ExchangeMove, Ruling, Refuses, Does, only, clears_exchange, ours, cause_for, is_unavailable, is_too_many, is_empty_whole, is_whole, is_nothing, meant, joined, collects, tries_again, on_type, on_timer, on_expiry, on_cancel_expiry, progresses, rings, provisional, accepts}
+use Rattle.calls.specs.Rules.{State, Choice, Move, Found, at, at_call, another, on_leave, on_ok, on_other, uncalled, on_setup, seek, by_live_number, by_awaited_number}
+use Rattle.decisions.specs.Outcomes.{responded, turned_away, is_release_complete, wants_another}
 use Rattle.gateway.proofs.Channels.{Unseizing}
 
 -- a ruling that seizes nothing
@@ -95,7 +94,7 @@ ok_still : (n d : ℕ) (r : Option Found) → Unseizing (on_ok n d r)
 ok_still n d None = tt
 ok_still n d (Some f) = accept_still f.call n d f.call.sip
 
-pub response_still : (table : List (Option Call)) (n s d : ℕ) (media : Bool) → Unseizing (on_response table n s d media)
+pub response_still : (table : List (Option Call)) (n s d : ℕ) (media : Bool) → Unseizing (responded table n s d media)
 response_still table n s d media =
     let mine = seek (by_live_number n) table in
     cond_both (eqb s 200) _ _ Unseizing

@@ -1,10 +1,13 @@
 -- What a gateway and its two queues stand for among the states of the rules.
 use Rattle.std.specs.Prelude.{◌≡◌, ℕ, ◌<◌, ◌≤◌, true, List, [], Some, None, Option, slice_index_or}
+use Rattle.refusals.specs.declared.Ground.{Ground}
 use Rattle.messages.specs.declared.record.Channel.{Channel}
 use Rattle.messages.specs.declared.record.Message.{Message}
+use Rattle.pools.specs.declared.pool.Pool.{Ghosts}
 use Rattle.pools.specs.States.{States, idle, AnyWasIdle}
 use Rattle.queues.specs.declared.queue.Queue.{Queue}
 use Rattle.queues.specs.Waiting.{waiting, room}
+use Rattle.calls.specs.declared.answers.Refused.{Refused}
 use Rattle.calls.specs.declared.outgoing.SipMessage.{SipMessage}
 use Rattle.calls.specs.declared.record.Call.{Call}
 use Rattle.calls.specs.declared.record.Digits.{Digits}
@@ -18,7 +21,7 @@ use Rattle.desk.specs.Wishes.{WishGets}
 use Rattle.gateway.specs.declared.gateway.Gateway.{Gateway}
 
 -- its calls, the meaning of its pool, what waits in the queues and how much can wait, the next number and the full length
-abbrev pub state_of : {P : Type 0} → (P → States) → Gateway P → Queue (Message Digits) → Queue SipMessage → State
+abbrev pub state_of : {P : Type 0} {G : Ghosts P} → (P → States) → Gateway P G → Queue (Message Digits) → Queue SipMessage → State
 state_of state g exchange sip =
     record { table = g.table.places; pool = state g.trunk.pool; exchange = waiting exchange; sip = waiting sip; exchange_places = room exchange; sip_places = room sip; next = g.next; full = g.full }
 
@@ -26,8 +29,12 @@ state_of state g exchange sip =
 abbrev pub InRange : ℕ → ℕ → Type 0
 InRange full first = (1 ≤ full) × (full ≤ 20) × (1 ≤ first)
 
+-- a refusal that has no place in the octets
+abbrev pub placeless : (ground : Ground) → Refused
+placeless ground = record { ground = ground; place = None }
+
 -- with empty queues, whatever their places, the gateway is at its opening, and its history is empty
-pub record Begins {P : Type 0} (state : P → States) (g : Gateway P) : Type 0 where
+pub record Begins {P : Type 0} {G : Ghosts P} (state : P → States) (g : Gateway P G) : Type 0 where
   pub opening : (exchange : Queue (Message Digits)) (sip : Queue SipMessage) → waiting exchange ≡ [] → waiting sip ≡ [] → Opening (state_of state g exchange sip)
   pub history : (exchange : Queue (Message Digits)) (sip : Queue SipMessage) → Run (state_of state g exchange sip) [] (state_of state g exchange sip)
 

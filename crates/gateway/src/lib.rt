@@ -1,5 +1,7 @@
 //! The gateway over any kind of pool: one call for each kind of event, and the takings from its two outgoing queues, which its
 //! caller keeps and lends.
+#![tactic(auto)]
+
 mod applying;
 mod gateway;
 mod opening;

@@ -6,6 +6,7 @@ ghost use Rattle.queues.specs.Waiting.{waiting, room, free};
 ghost use Rattle.calls.specs.declared.outgoing.SipMessage.TheVariants.{Response};
 ghost use Rattle.calls.specs.Rules.{quiet as quietReport};
 ghost use Rattle.moves.specs.Answering.{rejecting};
+ghost use Rattle.gateway.specs.Stands.{placeless};
 
 use calls::{Digits, Refused, Report, SipMessage};
 use messages::{CallReference, Message};
@@ -22,11 +23,11 @@ pub(crate) fn has_room(exchange: &Queue<'_, Message<Digits>>, sip: &Queue<'_, Si
 }
 
 /// A refusal on a ground that has no place in the octets.
-pub(crate) fn refused(ground: Ground) -> Refused
-    ensures without_a_place { result ≡ record { ground = ground; place = None } }
+pub(crate) fn refused(why: Ground) -> Refused
+    ensures without_a_place { result ≡ placeless why }
 {
     Refused {
-        ground,
+        ground: why,
         place: None,
     }
 }

@@ -1,4 +1,6 @@
 //! What the programs print of messages and refusals, a line each.
+#![tactic(auto)]
+
 mod answer;
 mod shown;
 

@@ -1,4 +1,6 @@
 //! The pool of a link of 30 channels: 1 to 15 and 17 to 31. It takes the highest idle channel.
+#![tactic(auto)]
+
 ghost use Rattle.std.specs.Prelude.{◌≡◌, ℕ};
 ghost use Rattle.pools.specs.States.{AnyWasIdle, after_any};
 ghost use Rattle.link_pool.specs.Links.{at, LinkChannels, all_idle, HighestIdle};

@@ -1,12 +1,11 @@
 -- The digits that are read are that part of the octets that their place says.
-use Rattle.std.proofs.Common.{◌≡◌, ℕ, zero, suc, ◌+◌, Bool, true, false, cond, ◌&&◌, eqb, ltb, leb, ◌⊎◌, List, [], ◌∷◌, length, get_or, take, drop, Some, None, Ok, Err, Option, Result, sym, refl, ap, ◌∙◌, subst, inl, inr, ⊎_elim, arith}
+use Rattle.std.proofs.Common.{◌≡◌, ℕ, zero, suc, ◌+◌, Bool, true, false, cond, ◌&&◌, eqb, ltb, leb, List, [], ◌∷◌, length, get_or, take, drop, Some, None, Ok, Err, Option, Result, sym, refl, ap, ◌∙◌, subst, arith}
 use Rattle.std.proofs.lemmas.List.{drop-drop}
 use Rattle.refusals.specs.declared.Ground.TheVariants.{BadElement, ElementPastEnd}
 use Rattle.messages.specs.declared.record.Elements.{Elements}
-use Rattle.messages.specs.declared.record.Message.{Message}
 use Rattle.messages.specs.declared.record.Misread.{Misread}
 use Rattle.messages.specs.Elements.{Digits, cause_of, channel_of, progress_of, digits_of, with_cause, with_channel, with_progress, with_digits, with_complete, absent, kept, noted, bare}
-use Rattle.messages.specs.Reading.{Heading, onward, headed, gathered, whole, decoded}
+use Rattle.messages.specs.Reading.{onward, gathered}
 
 -- these digits, if any, are that part of the octets
 abbrev pub Inside : List ℕ → Option Digits → Type 0

@@ -1,5 +1,5 @@
 -- What was written reads back as the same record.
-use Rattle.std.proofs.Common.{◌≡◌, ℕ, suc, ◌+◌, ◌-◌, ◌*◌, ◌/◌, ◌%◌, ◌<◌, ◌≤◌, Bool, true, false, cond, not, ◌&&◌, ◌||◌, eqb, ltb, leb, List, [], ◌∷◌, ◌++◌, length, Some, None, Ok, Err, Option, Result, sym, refl, ap, ◌∙◌, add_assoc, arith, length-append}
+use Rattle.std.proofs.Common.{◌≡◌, ℕ, suc, ◌+◌, ◌*◌, ◌/◌, ◌%◌, ◌≤◌, Bool, true, false, cond, not, ◌&&◌, eqb, ltb, leb, List, ◌++◌, length, Some, None, Ok, Option, sym, refl, ap, ◌∙◌, arith, length-append}
 use Rattle.std.specs.Option.{option_map}
 use Rattle.std.proofs.lemmas.Bool.{le-ltb, le-leb, lt-leb, leb-true, and_parts, ne_eqb}
 use Rattle.messages.specs.declared.kind.MessageType.{MessageType}
@@ -7,11 +7,10 @@ use Rattle.messages.specs.declared.kind.MessageType.TheVariants.{Alerting, CallP
 use Rattle.messages.specs.declared.record.CallReference.{CallReference}
 use Rattle.messages.specs.declared.record.Elements.{Elements}
 use Rattle.messages.specs.declared.record.Message.{Message}
-use Rattle.messages.specs.declared.record.Misread.{Misread}
 use Rattle.messages.specs.Types.{code_of, type_of, is_setup}
-use Rattle.messages.specs.Elements.{Digits, bare, with_digits}
-use Rattle.messages.specs.Reading.{Heading, headed, gathered, decoded, bad_reference, reference_of, lacking, typed, whole, onward}
-use Rattle.messages.specs.Writing.{complete_octets, bearer_octets, cause_octets, channel_octets, progress_octets, digits_octets, element_octets, head_octets, encoded, reference_fits, cause_fits, channel_fits, progress_fits, digits_fit, fits}
+use Rattle.messages.specs.Elements.{bare, with_digits}
+use Rattle.messages.specs.Reading.{headed, gathered, bad_reference, lacking, whole, onward}
+use Rattle.messages.specs.Writing.{complete_octets, bearer_octets, cause_octets, channel_octets, progress_octets, element_octets, head_octets, encoded, reference_fits, cause_fits, channel_fits, progress_fits, digits_fit}
 use Rattle.messages.specs.Laws.{digits_place, as_read, RoundTrip, LayoutExamples}
 use Rattle.messages.proofs.Passing.{seen, past_complete, past_bearer, past_cause, past_channel, past_progress, past_digits}
 

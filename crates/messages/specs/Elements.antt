@@ -1,5 +1,5 @@
 -- What each information element holds, by its contents, and how a message's elements are gathered.
-use Rattle.std.specs.Prelude.{ℕ, ◌+◌, ◌%◌, Bool, true, false, cond, not, ◌&&◌, ◌||◌, List, [], ◌∷◌, length, drop, Some, None, Ok, Err, Option, Result, ◌==◌, nat_le, slice_index}
+use Rattle.std.specs.Prelude.{ℕ, ◌+◌, ◌%◌, Bool, true, false, cond, ◌&&◌, ◌||◌, List, [], ◌∷◌, length, drop, Some, None, Ok, Err, Option, Result, ◌==◌, nat_le, slice_index}
 use Rattle.refusals.specs.declared.Ground.{Ground}
 use Rattle.refusals.specs.declared.Ground.TheVariants.{BadElement}
 use Rattle.messages.specs.declared.record.Cause.{Cause}
@@ -65,15 +65,19 @@ abbrev pub absent : {B : Type 0} → Option B → Bool
 absent None = true
 absent (Some x) = false
 
+-- why octets were refused, and the place of the octet that shows it
+abbrev pub misread : (ground : Ground) → ℕ → Misread
+misread ground place = record { ground = ground; place = place }
+
 -- an element that was read keeps its layout, or the message is refused at the element's first octet
 abbrev pub kept : {B : Type 0} → ℕ → Option B → (Option B → Elements Digits) → Result (Elements Digits) Misread
-kept place None take = Err (record { ground = BadElement; place = place })
+kept place None take = Err (misread BadElement place)
 kept place (Some x) take = Ok (take (Some x))
 
 -- one element joins those seen before it: the first of each kind is read, 90 to 9F are refused, all else is skipped
 abbrev pub noted : ℕ → ℕ → List ℕ → Elements Digits → Result (Elements Digits) Misread
 noted id place contents seen =
-    cond (nat_le 144 id && nat_le id 159) (Err (record { ground = BadElement; place = place }))
+    cond (nat_le 144 id && nat_le id 159) (Err (misread BadElement place))
     (cond (id == 161) (Ok (with_complete seen))
     (cond (id == 8 && absent seen.cause) (kept place (cause_of contents) (with_cause seen))
     (cond (id == 24 && absent seen.channel) (kept place (channel_of contents) (with_channel seen))

@@ -1,10 +1,9 @@
 -- What holds of the layout as a whole.
-use Rattle.std.specs.Prelude.{◌≡◌, ℕ, ◌+◌, ◌-◌, true, false, List, [], ◌∷◌, length, Some, None, Ok, Err}
+use Rattle.std.specs.Prelude.{◌≡◌, ℕ, ◌-◌, true, false, List, [], ◌∷◌, length, Some, None, Ok}
 use Rattle.std.specs.Option.{option_map}
 use Rattle.refusals.specs.declared.Ground.TheVariants.{ElementPastEnd, BadReference}
 use Rattle.messages.specs.declared.kind.MessageType.TheVariants.{Setup, Disconnect}
 use Rattle.messages.specs.declared.record.Message.{Message}
-use Rattle.messages.specs.declared.record.Elements.{Elements}
 use Rattle.messages.specs.Elements.{Digits}
 use Rattle.messages.specs.Reading.{decoded, refuse, lacking}
 use Rattle.messages.specs.Writing.{encoded, fits}

@@ -8,10 +8,10 @@ use Rattle.messages.specs.declared.record.Elements.{Elements}
 use Rattle.messages.specs.declared.record.Message.{Message}
 use Rattle.messages.specs.declared.record.Misread.{Misread}
 use Rattle.messages.specs.Types.{type_of, is_setup}
-use Rattle.messages.specs.Elements.{Digits, absent, bare, noted}
+use Rattle.messages.specs.Elements.{Digits, absent, bare, misread, noted}
 
 abbrev pub refuse : {B : Type 0} → Ground → ℕ → Result B Misread
-refuse ground place = Err (record { ground = ground; place = place })
+refuse why place = Err (misread why place)
 
 -- what follows a part that was read, or that part's refusal
 abbrev pub onward : {B C : Type 0} → Result B Misread → (B → Result C Misread) → Result C Misread

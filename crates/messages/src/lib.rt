@@ -1,4 +1,6 @@
 //! QSIG messages as records, and the octet layout with its laws as definitions (in specs/).
+#![tactic(auto)]
+
 mod complete;
 mod digit;
 mod kind;

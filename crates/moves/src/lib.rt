@@ -1,4 +1,6 @@
 //! What a step does to one call: the moves of its two sides, what it says to the exchange, and the effect of both moves together.
+#![tactic(auto)]
+
 mod clearing;
 mod effect;
 mod exchange;

@@ -1,4 +1,6 @@
 //! Reads lines of hexadecimal octets and prints each as a QSIG message and back.
+#![tactic(auto)]
+
 use lines::{Answer, answer_to, is_remark};
 use std::io;
 

@@ -1,4 +1,6 @@
 //! Examples of both kinds of pool, run as tests.
+#![tactic(auto)]
+
 #[cfg(test)]
 mod link;
 #[cfg(test)]

@@ -5,7 +5,7 @@ use Rattle.refusals.specs.declared.Ground.TheVariants.{ElementPastEnd, BadElemen
 use Rattle.messages.specs.declared.record.Elements.{Elements}
 use Rattle.messages.specs.declared.record.Misread.{Misread}
 use Rattle.messages.specs.declared.record.Part.{Part}
-use Rattle.messages.specs.Elements.{Digits, absent}
+use Rattle.messages.specs.Elements.{Digits, absent, misread}
 use Rattle.reader.specs.declared.element.Element.{Element}
 use Rattle.reader.specs.declared.element.Reader.{Reader}
 use Rattle.reader.specs.Seen.{seen_elements}
@@ -32,7 +32,7 @@ abbrev pub item_at : List ℕ → ℕ → Result (Option Item) Misread
 item_at xs at =
     cond (at == length xs) (Ok None)
     (cond (nat_le 128 (slice_index xs at)) (Ok (Some (record { id = slice_index xs at; place = 5 + at; contents = [] })))
-    (cond (nat_lt (length xs) (at + 2 + slice_index xs (at + 1))) (Err (record { ground = ElementPastEnd; place = 5 + at }))
+    (cond (nat_lt (length xs) (at + 2 + slice_index xs (at + 1))) (Err (misread ElementPastEnd (5 + at)))
     (Ok (Some (record { id = slice_index xs at; place = 5 + at; contents = take (slice_index xs (at + 1)) (drop (at + 2) xs) })))))
 
 -- how many octets an element takes
@@ -54,4 +54,4 @@ abbrev pub unless_seen : {B : Type 0} → Option B → Elements Digits → Resul
 unless_seen before seen first = cond (absent before) first (Ok seen)
 
 abbrev pub bad_at : ℕ → Misread
-bad_at place = record { ground = BadElement; place = place }
+bad_at place = misread BadElement place

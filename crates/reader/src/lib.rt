@@ -1,4 +1,6 @@
 //! Reads a QSIG message from the caller's octets.
+#![tactic(auto)]
+
 mod contents;
 mod element;
 mod header;

@@ -1,4 +1,6 @@
 // Every ground on which the product refuses something, with its number and a short text.
+#![tactic(auto)]
+
 ghost use Rattle.std.specs.Prelude.{◌≡◌};
 ghost use Rattle.refusals.specs.Grounds.{number_of, Says};
 

@@ -1,5 +1,5 @@
 -- A record is the same as itself, and what was written comes back as it.
-use Rattle.std.proofs.Common.{◌≡◌, ℕ, Bool, true, false, cond, not, ◌&&◌, eqb, ltb, List, length, Some, None, Ok, Err, Option, Result, refl, arith}
+use Rattle.std.proofs.Common.{◌≡◌, ℕ, Bool, true, false, cond, not, eqb, ltb, List, length, Some, None, Ok, Err, Option, Result, refl, arith}
 use Rattle.std.specs.Option.{option_map}
 use Rattle.std.proofs.lemmas.Slice.Eq.{bytes_eq-Decides}
 use Rattle.std.proofs.lemmas.Bool.{eq-eqb, and_from}
@@ -9,7 +9,6 @@ use Rattle.messages.specs.declared.record.Cause.{Cause}
 use Rattle.messages.specs.declared.record.Channel.{Channel}
 use Rattle.messages.specs.declared.record.Message.{Message}
 use Rattle.messages.specs.Types.{code_of}
-use Rattle.messages.specs.Elements.{Digits}
 use Rattle.messages.specs.Reading.{lacking}
 use Rattle.messages.specs.Writing.{encoded, fits, writes}
 use Rattle.messages.specs.Laws.{as_read}

@@ -1,4 +1,6 @@
 //! Writes a message and reads it back: the same record, always.
+#![tactic(auto)]
+
 mod checked;
 mod same;
 

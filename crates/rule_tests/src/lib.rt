@@ -1,4 +1,6 @@
 //! Every row of the rules on one call, tried by tables. What each row expects was worked out from the rules.
+#![tactic(auto)]
+
 #[cfg(test)]
 mod exchange_rows;
 #[cfg(test)]

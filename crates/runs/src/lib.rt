@@ -1,4 +1,6 @@
 //! Runs of a gateway: a list of events in their order, with what came of each, and the law that every run keeps.
+#![tactic(auto)]
+
 mod drive;
 mod event;
 mod play;

@@ -36,7 +36,7 @@ pub fn open_and_run<P: Pool + Drop>(
         (λ _. Unit {0}) }
     ensures not_played_for_a_setting_or_memory { MatchResult result
         (λ _. InRange full first)
-        (λ e. elim e [ NotPlayed.Refused ground ↦ (InRange full first → ⊥) × (ground ≡ SettingOutOfRange) | NotPlayed.NoMemory ↦ InRange full first ]) }
+        (λ e. elim e [ NotPlayed.Refused why ↦ (InRange full first → ⊥) × (why ≡ SettingOutOfRange) | NotPlayed.NoMemory ↦ InRange full first ]) }
 {
     let mut gateway = match Gateway::open(full, first, pool) {
         Ok(gateway) => gateway,

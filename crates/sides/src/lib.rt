@@ -1,4 +1,6 @@
 //! What is asked of the two sides of a call: the exchange's and SIP's.
+#![tactic(auto)]
+
 mod exchange;
 mod sip;
 

@@ -1,4 +1,6 @@
 //! The rules of SIP events at one call, and of the call that an INVITE makes.
+#![tactic(auto)]
+
 mod ending;
 mod invite;
 mod news;

@@ -1,4 +1,6 @@
 // Prints what both mappings answer for every row, and compares all their answers with a list of its own.
+#![tactic(auto)]
+
 mod list;
 mod report;
 

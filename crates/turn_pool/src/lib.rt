@@ -1,4 +1,6 @@
 //! The pool of a listed set of channels that take turns: it takes the channel that is idle longest.
+#![tactic(auto)]
+
 mod listing;
 mod moves;
 mod row;

@@ -29,4 +29,4 @@ element_answer buffer contents =
 -- the only ground on which an octet is refused
 abbrev pub ShortOnly : Result Unit Ground → Type 0
 ShortOnly (Ok x) = Unit {0}
-ShortOnly (Err ground) = ground ≡ BufferTooShort
+ShortOnly (Err why) = why ≡ BufferTooShort

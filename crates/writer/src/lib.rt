@@ -1,4 +1,6 @@
 //! Writes a QSIG message into the caller's buffer.
+#![tactic(auto)]
+
 mod element;
 mod message;
 mod parts;

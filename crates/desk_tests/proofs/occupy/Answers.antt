@@ -6,10 +6,10 @@ pub returns-in-Err : goal.returns-in-Err
 returns-in-Err g c =
     let wish = c.in-Some.ensures in
     let entry = c.in-Err.ensures in
-    let free = admitted_if_free c.args.table.now.places c.args.place _ _ _ c.call-on.ensures.collects-on-that-channel c.channel-channel.ensures.answers-its-channel in
-    let back = handed_back _ _ _ _ _ _ c.args.place _ free entry.handed-back-exactly-if-not-admitted entry.entered-at-that-place-alone in
+    let free = admitted_if_free c.args.table.now.places c.args.place _ _ _ c.call_on.ensures.collects_on_that_channel c.channel-channel.ensures.answers_its_channel in
+    let back = handed_back _ _ _ _ _ _ c.args.place _ free entry.handed_back_exactly_if_not_admitted entry.entered_at_that_place_alone in
     record {
-      by-the-wish-if-the-place-is-free = back.2 _ _ _ _;
-      enters-it-there-alone = back.1;
-      seizes-it-alone = released_again _ _ _ _ _ wish.what-is-granted-was-idle wish.grant-seizes-it-alone back.0 c.release.ensures.grant-frees-it-alone;
+      by_the_wish_if_the_place_is_free = back.2 _ _ _ _;
+      enters_it_there_alone = back.1;
+      seizes_it_alone = released_again _ _ _ _ _ wish.what_is_granted_was_idle wish.grant_seizes_it_alone back.0 c.release.ensures.grant_frees_it_alone;
     }

@@ -6,14 +6,14 @@ use Rattle.dialling.proofs.appended.Goals as goal
 pub extended-requires : goal.extended-requires
 extended-requires c =
     let ds = c.args.known in
-    let n = c.count-of-count.result in
-    record { few = few (meant ds) (take n ds.octets) c.args.more.now (again ds.count n ds.octets c.count-of-count.ensures.number-of-digits) c.requires.room }
+    let n = c.count_of-count.result in
+    record { few = few (meant ds) (take n ds.octets) c.args.more.now (again ds.count n ds.octets c.count_of-count.ensures.number_of_digits) c.requires.room }
 
 pub returns : goal.returns
 returns c =
     let ds = c.args.known in
     record {
-      one-behind-the-other =
-          c.extended.ensures.one-behind-the-other
-          ∙ ap (λ (l : List ℕ). recorded (l ++ c.args.more.now)) (again ds.count c.count-of-count.result ds.octets c.count-of-count.ensures.number-of-digits);
+      one_behind_the_other =
+          c.extended.ensures.one_behind_the_other
+          ∙ ap (λ (l : List ℕ). recorded (l ++ c.args.more.now)) (again ds.count c.count_of-count.result ds.octets c.count_of-count.ensures.number_of_digits);
     }

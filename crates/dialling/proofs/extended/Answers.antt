@@ -1,4 +1,4 @@
-use Rattle.std.proofs.Common.{◌≡◌, ℕ, ◌+◌, List, ◌++◌, length, get_or, set, sym, ap, ◌∙◌, arith, length-append}
+use Rattle.std.proofs.Common.{ℕ, ◌+◌, List, ◌++◌, length, get_or, set, sym, ap, ◌∙◌, arith, length-append}
 use Rattle.calls.specs.declared.record.Digits.{Digits}
 use Rattle.dialling.proofs.Noughts.{padded, further, all_further}
 use Rattle.dialling.proofs.extended.Goals as goal
@@ -18,6 +18,6 @@ returns c =
     let xs = c.args.known.now in
     let bs = c.args.more.now in
     record {
-      one-behind-the-other =
+      one_behind_the_other =
           ap (build (length xs + length bs)) (c.loop-i.invariant ∙ all_further xs bs c.loop-i.i (omega arith) (omega arith)) ∙ ap (λ n. build n (padded (xs ++ bs))) (sym (length-append xs bs));
     }

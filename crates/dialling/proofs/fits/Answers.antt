@@ -4,4 +4,4 @@ use Rattle.dialling.proofs.fits.Goals as goal
 
 pub returns : goal.returns
 returns c =
-    record { not_too_many = room (meant c.args.known) c.args.more.now c.count-of.result c.count-of.ensures.number-of-digits c.count-of.ensures.few }
+    record { not_too_many = room (meant c.args.known) c.args.more.now c.count_of.result c.count_of.ensures.number_of_digits c.count_of.ensures.few }

@@ -1,4 +1,4 @@
-use Rattle.std.proofs.Common.{◌≡◌, ℕ, List, length, get_or, set, ap, ◌∙◌, arith}
+use Rattle.std.proofs.Common.{ℕ, List, length, get_or, set, ap, ◌∙◌, arith}
 use Rattle.calls.specs.declared.record.Digits.{Digits}
 use Rattle.dialling.proofs.Noughts.{written, done}
 use Rattle.dialling.proofs.recorded.Goals as goal
@@ -15,4 +15,4 @@ pub returns : goal.returns
 unfolding build
 returns c =
     let bs = c.args.digits.now in
-    record { these-digits = ap (build (length bs)) (c.loop-i.invariant ∙ done bs c.loop-i.i (omega arith) (omega arith)) }
+    record { these_digits = ap (build (length bs)) (c.loop-i.invariant ∙ done bs c.loop-i.i (omega arith) (omega arith)) }

@@ -6,7 +6,7 @@ use Rattle.expectations.proofs.expected_cause.Goals as goal
 
 pub returns-then-fits : goal.returns-then-fits
 returns-then-fits c =
-    record { first-that-fits = hit (λ e. status_fits e c.args.status) (λ e. (e.cause, e.location)) c.args.entries.now c.loop-entry.entry-index c.loop-entry.invariant _ c.loop-entry-test.true (sym c.if-fits.ensures.inside) }
+    record { first_that_fits = hit (λ e. status_fits e c.args.status) (λ e. (e.cause, e.location)) c.args.entries.now c.loop-entry.entry-index c.loop-entry.invariant _ c.loop-entry-test.true (sym c.if-fits.ensures.inside) }
 
 pub loop-entry-preserved : goal.loop-entry-preserved
 loop-entry-preserved c =
@@ -14,4 +14,4 @@ loop-entry-preserved c =
 
 pub returns : goal.returns
 returns c =
-    record { first-that-fits = ended (λ e. status_fits e c.args.status) (λ e. (e.cause, e.location)) c.args.entries.now c.loop-entry.entry-index c.loop-entry.invariant c.loop-entry-test.false }
+    record { first_that_fits = ended (λ e. status_fits e c.args.status) (λ e. (e.cause, e.location)) c.args.entries.now c.loop-entry.entry-index c.loop-entry.invariant c.loop-entry-test.false }

@@ -2,4 +2,4 @@ use Rattle.calls.proofs.Examples.{collisions}
 use Rattle.calls.proofs.laws.collisions_stand.Goals as goal
 
 pub returns : goal.returns
-returns c = record { events-and-answers = collisions }
+returns c = record { events_and_answers = collisions }

@@ -2,4 +2,4 @@ use Rattle.calls.proofs.Histories.{run_law, runs_compose}
 use Rattle.calls.proofs.laws.run_law_stands.Goals as goal
 
 pub returns : goal.returns
-returns c = record { laws-at-every-cut = run_law; steps-make-longer-runs = runs_compose }
+returns c = record { laws_at_every_cut = run_law; steps_make_longer_runs = runs_compose }

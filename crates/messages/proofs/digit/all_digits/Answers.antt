@@ -7,14 +7,14 @@ use Rattle.messages.proofs.digit.all_digits.Goals as goal
 here : (xs : List ℕ) (i : ℕ) (b : Bool) → i < length xs → b ≡ is_digit (get_or xs i 0) → b && all_digits (drop (i + 1) xs) ≡ all_digits (drop i xs)
 here xs i b h e = ap (λ x. x && all_digits (drop (i + 1) xs)) e ∙ sym (at_drop_more all_digits xs i 0 h)
 
-pub returns-then-not-is-digit : goal.returns-then-not-is-digit
-returns-then-not-is-digit c =
-    record { each-a-digit = here c.args.octets.now c.loop-octet.octet-index _ (omega arith) c.if-not-is-digit.ensures.a-digit ∙ c.loop-octet.invariant }
+pub returns-then-not-is_digit : goal.returns-then-not-is_digit
+returns-then-not-is_digit c =
+    record { each_a_digit = here c.args.octets.now c.loop-octet.octet-index _ (omega arith) c.if-not-is_digit.ensures.a_digit ∙ c.loop-octet.invariant }
 
 pub loop-octet-preserved : goal.loop-octet-preserved
 loop-octet-preserved c =
-    here c.args.octets.now c.loop-octet.octet-index _ (omega arith) c.if-not-is-digit.ensures.a-digit ∙ c.loop-octet.invariant
+    here c.args.octets.now c.loop-octet.octet-index _ (omega arith) c.if-not-is_digit.ensures.a_digit ∙ c.loop-octet.invariant
 
 pub returns : goal.returns
 returns c =
-    record { each-a-digit = sym (at_drop_all all_digits c.args.octets.now c.loop-octet.octet-index (omega arith)) ∙ c.loop-octet.invariant }
+    record { each_a_digit = sym (at_drop_all all_digits c.args.octets.now c.loop-octet.octet-index (omega arith)) ∙ c.loop-octet.invariant }

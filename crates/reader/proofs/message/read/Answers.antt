@@ -1,4 +1,4 @@
-use Rattle.std.proofs.Common.{◌≡◌, ℕ, List, drop, Some, None, Option, sym, ap, ◌∙◌, rules}
+use Rattle.std.proofs.Common.{ℕ, List, Some, None, Option, sym, ap, ◌∙◌, rules}
 use Rattle.messages.specs.declared.record.Part.{Part}
 use Rattle.messages.specs.Elements.{bare}
 use Rattle.messages.specs.Reading.{gathered}
@@ -12,12 +12,12 @@ handed_out octets (Some p) i = i
 
 pub returns : goal.returns
 returns c =
-    let rest = c.in-ok-header.ensures.the_rest in
-    let all = c.in-ok-elements.ensures.gathered-from-the-left in
+    let rest = c.in_ok-header.ensures.the_rest in
+    let all = c.in_ok-elements.ensures.gathered_from_the_left in
     let read = sym (all ∙ ap (λ xs. gathered 0 5 xs bare) rest) in
     record {
-      exactly-by-the-layout = search rules;
-      digits-are-that-part =
-          handed_out c.args.octets.now c.in-ok-elements.elements.digits
-          (read_inside c.args.octets.now (seen_elements c.in-ok-elements.elements) read);
+      exactly_by_the_layout = search rules;
+      digits_are_that_part =
+          handed_out c.args.octets.now c.in_ok-elements.elements.digits
+          (read_inside c.args.octets.now (seen_elements c.in_ok-elements.elements) read);
     }

@@ -10,19 +10,19 @@ said : {ground case : Ground} (text : List ℕ) → ground ≡ case → Says cas
 said text e s = let P : Ground → Type 0 = λ g. Says g text in subst P (sym e) s
 
 pub returns-in-WrongDiscriminator : goal.returns-in-WrongDiscriminator
-returns-in-WrongDiscriminator c = record { text-of-the-ground = said _ c.in-WrongDiscriminator.is refl }
+returns-in-WrongDiscriminator c = record { text_of_the_ground = said _ c.in-WrongDiscriminator.is refl }
 
 pub returns-in-UnknownType : goal.returns-in-UnknownType
-returns-in-UnknownType c = record { text-of-the-ground = said _ c.in-UnknownType.is refl }
+returns-in-UnknownType c = record { text_of_the_ground = said _ c.in-UnknownType.is refl }
 
 pub returns-in-SettingOutOfRange : goal.returns-in-SettingOutOfRange
-returns-in-SettingOutOfRange c = record { text-of-the-ground = said _ c.in-SettingOutOfRange.is refl }
+returns-in-SettingOutOfRange c = record { text_of_the_ground = said _ c.in-SettingOutOfRange.is refl }
 
 pub returns-in-StatusOutOfRange : goal.returns-in-StatusOutOfRange
-returns-in-StatusOutOfRange c = record { text-of-the-ground = said _ c.in-StatusOutOfRange.is refl }
+returns-in-StatusOutOfRange c = record { text_of_the_ground = said _ c.in-StatusOutOfRange.is refl }
 
 pub returns-in-DialogueInUse : goal.returns-in-DialogueInUse
-returns-in-DialogueInUse c = record { text-of-the-ground = said _ c.in-DialogueInUse.is refl }
+returns-in-DialogueInUse c = record { text_of_the_ground = said _ c.in-DialogueInUse.is refl }
 
 pub returns-in-ReferenceInUse : goal.returns-in-ReferenceInUse
-returns-in-ReferenceInUse c = record { text-of-the-ground = said _ c.in-ReferenceInUse.is refl }
+returns-in-ReferenceInUse c = record { text_of_the_ground = said _ c.in-ReferenceInUse.is refl }

@@ -4,4 +4,4 @@ use Rattle.round_trip.proofs.same.same_octets.Goals as goal
 
 pub returns : goal.returns
 returns c =
-    record { octet-by-octet = same_from_decides _ _ (slice_eq-Decides Decides-eqb _ _ _ c.eq.ensures) (bytes_eq-Decides c.args.a.now c.args.b.now) }
+    record { octet_by_octet = same_from_decides _ _ (slice_eq-Decides Decides-eqb _ _ _ c.eq.ensures) (bytes_eq-Decides c.args.a.now c.args.b.now) }

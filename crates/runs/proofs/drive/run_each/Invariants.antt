@@ -1,4 +1,4 @@
-use Rattle.std.proofs.Common.{◌≡◌, ◌+◌, ◌≤◌, List, map, length, take, vec_items, vec_len, vec_capacity}
+use Rattle.std.proofs.Common.{◌+◌, ◌≤◌, map, length, take, vec_items, vec_len, vec_capacity}
 use Rattle.calls.specs.Rules.{Stepping}
 use Rattle.gateway.specs.Stands.{state_of}
 use Rattle.runs.specs.Events.{event_of}

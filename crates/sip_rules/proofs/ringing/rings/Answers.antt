@@ -10,8 +10,8 @@ returns c =
     let media = c.args.media in
     let told = c.args.told in
     record {
-      told-by-status-and-media =
-          c.spreads.ensures.told-and-kept-in-mind
-          ∙ ap (λ (n : News). spread k media told n) c.news-of.ensures.news-by-status-and-media
+      told_by_status_and_media =
+          c.spreads.ensures.told_and_kept_in_mind
+          ∙ ap (λ (n : News). spread k media told n) c.news_of.ensures.news_by_status_and_media
           ∙ by_news k c.args.status media told;
     }

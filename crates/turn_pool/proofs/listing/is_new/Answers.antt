@@ -6,5 +6,5 @@ use Rattle.turn_pool.proofs.listing.is_new.Goals as goal
 
 pub returns-in-Some : goal.returns-in-Some
 returns-in-Some c =
-    let found = c.in-Some.ensures.first-place in
-    record { exactly-a-number-not-before = sym (ap (λ b. cond b false (number c.args.c)) (lt-ltb 0 _ (times_at c.args.before.now _ c.args.c found.0 found.1))) }
+    let found = c.in-Some.ensures.first_place in
+    record { exactly_a_number_not_before = sym (ap (λ b. cond b false (number c.args.c)) (lt-ltb 0 _ (times_at c.args.before.now _ c.args.c found.0 found.1))) }

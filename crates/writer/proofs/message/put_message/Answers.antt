@@ -1,4 +1,4 @@
-use Rattle.std.proofs.Common.{◌≡◌, ◌+◌, ◌++◌, length, refl, ap, ◌∙◌, append_assoc}
+use Rattle.std.proofs.Common.{◌≡◌, ◌++◌, length, refl, ap, ◌∙◌, append_assoc}
 use Rattle.messages.specs.Writing.{encoded, head_octets, complete_octets, bearer_octets, cause_octets, channel_octets, progress_octets, digits_octets}
 use Rattle.writer.specs.Values.{values, values_of}
 use Rattle.writer.proofs.Lent.{lent, longer}
@@ -16,19 +16,19 @@ returns c =
     let channel = channel_octets elements.channel in
     let progress = progress_octets elements.progress in
     let digits = digits_octets (values_of elements.digits) in
-    let one = c.put-complete-at.ensures in
-    let two = c.put-bearer-at.ensures in
-    let three = c.put-cause-at.ensures in
-    let four = c.put-channel-at.ensures in
-    let five = c.put-progress-at.ensures in
-    let six = c.put-digits-at.ensures in
+    let one = c.put_complete-at.ensures in
+    let two = c.put_bearer-at.ensures in
+    let three = c.put_cause-at.ensures in
+    let four = c.put_channel-at.ensures in
+    let five = c.put_progress-at.ensures in
+    let six = c.put_digits-at.ensures in
     let at1 = longer head complete 5 _ refl one.size in
     let at2 = longer (head ++ complete) bearer _ _ at1 two.size in
     let at3 = longer ((head ++ complete) ++ bearer) cause _ _ at2 three.size in
     let at4 = longer (((head ++ complete) ++ bearer) ++ cause) channel _ _ at3 four.size in
     let at5 = longer ((((head ++ complete) ++ bearer) ++ cause) ++ channel) progress _ _ at4 five.size in
     let at6 = longer (((((head ++ complete) ++ bearer) ++ cause) ++ channel) ++ progress) digits _ _ at5 six.size in
-    let b1 = lent original head complete _ _ 5 _ refl c.put-header.ensures.after one.after in
+    let b1 = lent original head complete _ _ 5 _ refl c.put_header.ensures.after one.after in
     let b2 = lent original (head ++ complete) bearer _ _ _ _ at1 b1 two.after in
     let b3 = lent original ((head ++ complete) ++ bearer) cause _ _ _ _ at2 b2 three.after in
     let b4 = lent original (((head ++ complete) ++ bearer) ++ cause) channel _ _ _ _ at3 b3 four.after in

@@ -4,4 +4,4 @@ use Rattle.desk.specs.Records.{holding}
 use Rattle.desk.proofs.table.Table.holds.Goals as goal
 
 pub returns-else-place-lt64 : goal.returns-else-place-lt64
-returns-else-place-lt64 c = record { answers-the-channel-held = sym (ap holding (get_or_past c.args.self.now.places c.args.place _ (omega arith))) }
+returns-else-place-lt64 c = record { answers_the_channel_held = sym (ap holding (get_or_past c.args.self.now.places c.args.place _ (omega arith))) }

@@ -9,6 +9,6 @@ pub returns-then-place-ge64 : goal.returns-then-place-ge64
 returns-then-place-ge64 c =
     let places = c.args.self.now.places in
     record {
-      gives-out-the-channel-held = sym (ap (λ (slot : Option Call). token_of (holding slot)) (get_or_past places c.args.place None (omega arith)));
-      frees-that-place-alone = sym (set_past places c.args.place None (omega arith));
+      gives_out_the_channel_held = sym (ap (λ (slot : Option Call). token_of (holding slot)) (get_or_past places c.args.place None (omega arith)));
+      frees_that_place_alone = sym (set_past places c.args.place None (omega arith));
     }

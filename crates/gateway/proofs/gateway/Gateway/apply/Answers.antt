@@ -1,8 +1,8 @@
-use Rattle.std.proofs.Common.{◌≡◌, true, List, sym, ap, ◌∙◌}
+use Rattle.std.proofs.Common.{ap, ◌∙◌}
 use Rattle.calls.specs.Standing.{is_sound}
 use Rattle.calls.proofs.Sounds.{sound_set}
 use Rattle.gateway.proofs.gateway.Gateway.apply.Goals as goal
 
-pub invariant-of-self : goal.invariant-of-self
-invariant-of-self g c =
-    (ap is_sound c.change-left.ensures.changes-that-place-alone ∙ sound_set c.args.self.now.table.places c.args.place c.args.effect.after c.args.self.now.sound c.requires.ready.sound, tt)
+pub invariant_of-self : goal.invariant_of-self
+invariant_of-self g c =
+    record { sound = ap is_sound c.change-left.ensures.changes_that_place_alone ∙ sound_set c.args.self.now.table.places c.args.place c.args.effect.after c.args.self.now.sound c.requires.ready.sound }

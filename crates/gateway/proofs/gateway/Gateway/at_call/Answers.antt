@@ -1,12 +1,12 @@
-use Rattle.std.proofs.Common.{◌≡◌, None, sym, refl, ap, ◌∙◌, subst}
+use Rattle.std.proofs.Common.{sym, ap, ◌∙◌, subst}
 use Rattle.reader.specs.Seen.{seen_record}
-use Rattle.calls.specs.Effects.{on_type, tries_again}
-use Rattle.calls.specs.Rules.{Choice, Outcome, Move, at}
-use Rattle.calls.proofs.Dids.{bounded, plainly, likewise}
+use Rattle.calls.specs.Effects.{on_type}
+use Rattle.calls.specs.Rules.{Choice, Outcome, at}
+use Rattle.calls.proofs.Dids.{bounded, plainly}
 use Rattle.decisions.specs.Outcomes.{outcome_of}
 use Rattle.gateway.specs.Stands.{state_of, Possible}
 use Rattle.gateway.proofs.Seizures.{possible_at}
-use Rattle.gateway.proofs.Unseizing.{unpicked, retried}
+use Rattle.gateway.proofs.Unseizing.{unpicked}
 use Rattle.gateway.proofs.gateway.Gateway.at_call.Goals as goal
 
 pub settle-requires : goal.settle-requires
@@ -16,21 +16,21 @@ settle-requires g c =
     let m = seen_record c.args.message in
     let f = c.args.found in
     record {
-      possible = subst (Possible st.table) (sym c.on-heard-decision.ensures.by-type-and-state)
-          (possible_at st c.args.self.now.table.whole c.args.self.now.sound f.place f.call c.requires.found.0 c.requires.found.1 b c.requires.live st.full m (sym c.if-wants-another.ensures.setup-refused-for-its-channel));
+      possible = subst (Possible st.table) (sym c.on_heard-decision.ensures.by_type_and_state)
+          (possible_at st c.args.self.now.table.whole c.args.self.now.sound f.place f.call c.requires.found.0 c.requires.found.1 b c.requires.live st.full m (sym c.if-wants_another.ensures.setup_refused_for_its_channel));
       roomy = c.requires.roomy;
     }
 
-pub returns-else-wants-another : goal.returns-else-wants-another
-returns-else-wants-another g c =
+pub returns-else-wants_another : goal.returns-else-wants_another
+returns-else-wants_another g c =
     let st = state_of g.P.Pool.state c.args.self.now c.args.exchange.now c.args.sip.now in
     let b = bounded g.P.Pool.state g.P.Pool.top g.met.P.Pool.known_within_top g.met.P.Pool.top_within_127 c.args.self.now.trunk.pool in
     let m = seen_record c.args.message in
     let f = c.args.found in
     let rule : Choice → Outcome = λ ch. at f.place (on_type st.full ch.pick m f.call m.kind) in
     record {
-      refusal-leaves-all = c.settle.ensures.refusal-leaves-all;
-      by-type-and-state = plainly st rule b (outcome_of c.on-heard-decision.result)
-          (λ ch. ap (at f.place) (unpicked st.full ch.pick m f.call (sym c.if-wants-another.ensures.setup-refused-for-its-channel)) ∙ sym c.on-heard-decision.ensures.by-type-and-state)
-          c.settle.ensures.answer-of-the-outcome c.settle.ensures.outcome-applied;
+      refusal_leaves_all = c.settle.ensures.refusal_leaves_all;
+      by_type_and_state = plainly st rule b (outcome_of c.on_heard-decision.result)
+          (λ ch. ap (at f.place) (unpicked st.full ch.pick m f.call (sym c.if-wants_another.ensures.setup_refused_for_its_channel)) ∙ sym c.on_heard-decision.ensures.by_type_and_state)
+          c.settle.ensures.answer_of_the_outcome c.settle.ensures.outcome_applied;
     }

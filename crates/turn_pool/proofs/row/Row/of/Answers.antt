@@ -5,4 +5,4 @@ use Rattle.turn_pool.proofs.row.Row.of.Goals as goal
 pub returns : goal.returns
 returns c =
     let list = c.args.list.now in
-    record { holds-the-list = ap (take (length list)) c.write-first.ensures.the-list-first ∙ take_at list _ (length list) refl }
+    record { holds_the_list = ap (take (length list)) c.write_first.ensures.the_list_first ∙ take_at list _ (length list) refl }

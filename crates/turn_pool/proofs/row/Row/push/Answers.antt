@@ -6,4 +6,4 @@ pub returns : goal.returns
 returns c =
     let row = c.args.self.now in
     let count = length-take-le row.count row.places (omega arith) in
-    record { at-the-end = take_more_set row.places row.count c.args.c (omega arith) }
+    record { at_the_end = take_more_set row.places row.count c.args.c (omega arith) }
