@@ -1,5 +1,5 @@
 -- What the digits of a message come to.
-use Rattle.std.specs.Prelude.{Bool, cond, ◌&&◌, ◌||◌, [], ℕ, eqb, leb}
+use Rattle.std.specs.Prelude.{Bool, cond, ◌&&◌, ◌||◌, [], ℕ, ◌==◌, nat_le}
 use Rattle.messages.specs.declared.record.Message.{Message}
 use Rattle.messages.specs.Elements.{Digits as Heard}
 use Rattle.calls.specs.declared.record.Call.{Call}
@@ -14,7 +14,7 @@ awaiting k ds = redialled k ds (enters k ExchangeSide.Collecting []) (keeps k)
 -- the digits so far, once they are recorded: what the rule of more digits says where they are not too many
 abbrev pub gathered : ℕ → Bool → Call → Digits → Effect
 gathered full complete k ds =
-    cond (complete && eqb ds.count 0) (spurns k ds) (cond (complete || leb full ds.count) (proceeds k ds) (awaiting k ds))
+    cond (complete && ds.count == 0) (spurns k ds) (cond (complete || nat_le full ds.count) (proceeds k ds) (awaiting k ds))
 
 -- the digits of a SETUP cannot be a number
 abbrev pub misdialled : Message Heard → Bool

@@ -1,0 +1,116 @@
+use calls::Answer;
+use gateway::Gateway;
+use messages::MessageType;
+use runs::{Event, NotPlayed, open_and_run};
+use std::alloc::{AllocError, Global};
+use std::test::Fail;
+use turn_pool::TurnPool;
+
+/// RELEASE COMPLETE with cause 44 to the SETUP on channel 7.
+const UNAVAILABLE: [u8; 9] = [0x08, 0x02, 0x80, 0x07, 0x5a, 0x08, 0x02, 0x80, 0xac];
+
+/// An INVITE to 417, the exchange's refusal of the channel, and the takings.
+fn refused_channel(heap: Global) -> Result<Vec<Event>, AllocError> {
+    let digits = vec![in heap; b'4', b'1', b'7']?;
+    let octets = UNAVAILABLE.as_slice().to_vec(heap)?;
+    let mut events = Vec::new(heap);
+    events.push(Event::Invite {
+        transaction: 30,
+        dialogue: 70,
+        digits,
+    })?;
+    events.push(Event::Exchange { octets })?;
+    events.push(Event::TakeExchange)?;
+    events.push(Event::TakeExchange)?;
+    events.push(Event::TakeExchange)?;
+    events.push(Event::TakeSip)?;
+    Ok(events)
+}
+
+/// What a step reports as seized and released, or that it was refused.
+fn channels(answer: Answer) -> Option<(Option<u8>, Option<u8>)> {
+    match answer {
+        Answer::Step(Ok(report)) => Some((report.seized, report.released)),
+        _ => None,
+    }
+}
+
+/// The type of the exchange message that was taken, and its channel.
+fn taken(answer: Answer) -> Option<(MessageType, Option<u8>)> {
+    match answer {
+        Answer::Exchange(Some(message)) => Some((
+            message.kind,
+            message.elements.channel.map(|c| c.number),
+        )),
+        _ => None,
+    }
+}
+
+/// Nothing waited for SIP.
+fn is_nothing(answer: Answer) -> bool {
+    match answer {
+        Answer::Sip(None) => true,
+        _ => false,
+    }
+}
+
+/// How many calls stand on a channel.
+fn calls_on(gateway: &Gateway<TurnPool>, channel: u8) -> usize {
+    let mut count: usize = 0;
+    for place in 0..64 {
+        if let Some(call) = gateway.call_at(place) {
+            if call.channel == channel {
+                count = count.saturating_add(1);
+            }
+        }
+    }
+    count
+}
+
+#[test]
+fn a_refused_channel_brings_setup_on_another(rt: HostRuntime) -> Result<(), Fail> {
+    let heap = rt.alloc();
+    let events = refused_channel(heap)?;
+    let mut exchange = [None; 4];
+    let mut sip = [None; 4];
+    let pool = TurnPool::new(&[7, 9])?;
+    match open_and_run(3, 1, pool, heap, events.as_slice(), &mut exchange, &mut sip) {
+        Err(_) => Err(Fail::new("not played")),
+        Ok((gateway, answers)) => {
+            assert_eq!(rt; answers.len(), 6);
+            assert!(rt;
+                channels(answers[0]) == Some((Some(7), None)),
+                "the longest idle channel"
+            );
+            assert!(rt;
+                channels(answers[1]) == Some((Some(9), Some(7))),
+                "another in its place"
+            );
+            assert!(rt; taken(answers[2]) == Some((MessageType::Setup, Some(7))));
+            assert!(rt; taken(answers[3]) == Some((MessageType::Setup, Some(9))));
+            assert!(rt; taken(answers[4]) == None, "nothing else was sent");
+            assert!(rt;
+                is_nothing(answers[5]),
+                "no final response while the call goes on"
+            );
+            assert_eq!(rt; calls_on(&gateway, 9), 1);
+            assert_eq!(rt; calls_on(&gateway, 7), 0);
+            Ok(())
+        }
+    }
+}
+
+#[test]
+fn settings_out_of_range_open_nothing(rt: HostRuntime) -> Result<(), Fail> {
+    let heap = rt.alloc();
+    let mut exchange = [None; 2];
+    let mut sip = [None; 2];
+    for (full, first) in [(0, 1), (21, 1), (3, 0)] {
+        let pool = TurnPool::new(&[7])?;
+        match open_and_run(full, first, pool, heap, &[], &mut exchange, &mut sip) {
+            Err(NotPlayed::Refused(ground)) => assert_eq!(rt; ground.number(), 11),
+            _ => return Err(Fail::new("opened")),
+        }
+    }
+    Ok(())
+}
