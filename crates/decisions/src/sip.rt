@@ -1,9 +1,8 @@
 //! Events from SIP.
 ghost use Rattle.std.specs.Prelude.{◌≡◌, true, ◌&&◌, nat_le};
 ghost use Rattle.calls.specs.Words.{holds_dialogue};
-ghost use Rattle.calls.specs.Effects.{Does};
-ghost use Rattle.calls.specs.Rules.{seek, by_transaction, by_number, by_awaited_number, by_live_number, at_call, on_leave, another, on_ok, on_other, is_status};
 ghost use Rattle.calls.specs.Effects.{on_cancel_expiry};
+ghost use Rattle.calls.specs.Rules.{seek, by_transaction, by_number, at_call, on_leave, another, on_ok, on_other, is_status};
 ghost use Rattle.desk.specs.Keys.{found_of};
 ghost use Rattle.decisions.specs.Outcomes.{outcome_of, responded, invite_refusal};
 

@@ -1,4 +1,4 @@
-ghost use Rattle.std.specs.Prelude.{◌≡◌, ℕ, ◌<◌, length, replicate, Some, None, slice_index_or, slice_set};
+ghost use Rattle.std.specs.Prelude.{◌≡◌, ◌<◌, length, replicate, Some, None, slice_index_or, slice_set};
 ghost use Rattle.calls.specs.Rules.{seek, FreePlace};
 ghost use Rattle.desk.specs.Keys.{keyed, found_of, Within};
 ghost use Rattle.desk.specs.Tokens.{token_of};

@@ -1,7 +1,7 @@
 //! When a message is in its time.
 ghost use Rattle.std.specs.Prelude.{◌≡◌};
 ghost use Rattle.calls.specs.Words.{is_in, from_to};
-ghost use Rattle.calls.specs.Effects.{only as onlyThen};
+ghost use Rattle.calls.specs.Effects.{only as only_then};
 ghost use Rattle.moves.specs.Moves.{effect_of, ruling_of};
 
 use calls::ExchangeSide;
@@ -10,7 +10,7 @@ use refusals::Ground;
 
 /// In its time the effect; else it is not the time for it.
 pub fn only(in_time: bool, effect: Effect) -> Result<Effect, Ground>
-    ensures effect_in_its_time { ruling_of result ≡ onlyThen in_time (effect_of effect) }
+    ensures effect_in_its_time { ruling_of result ≡ only_then in_time (effect_of effect) }
 {
     if in_time {
         Ok(effect)

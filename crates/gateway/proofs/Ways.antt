@@ -10,7 +10,7 @@ use Rattle.calls.specs.declared.record.Call.{Call}
 use Rattle.calls.specs.declared.outgoing.SipMessage.{SipMessage}
 use Rattle.calls.specs.declared.record.Digits.{Digits}
 use Rattle.calls.specs.Standing.{is_sound}
-use Rattle.calls.specs.Rules.{State, Choice, Event, Outcome, Reply, refuse, outcome, roomed, is_roomy, answer_of, applied, Did, Stepped, Found, seek, by_reference}
+use Rattle.calls.specs.Rules.{State, Choice, Event, Outcome, Reply, refuse, outcome, roomed, is_roomy, applied, Did, Found, seek, by_reference}
 use Rattle.calls.proofs.Choices.{Bounded, fair_choice}
 use Rattle.calls.proofs.Dids.{plainly}
 use Rattle.calls.proofs.Sounds.{sound_everywhere}
@@ -28,9 +28,6 @@ module _ (st : State) where
       let w = fair_choice st b in
       let l = subst (Lawful st ev) (e w.0 ∙ cond-true (is_roomy st) o (refuse Ground.QueueFull) r) (lawful st (sound_everywhere st.table s) w.0 w.1 ev) in
       subst (Possible st.table) (sym p) (possible st len ev o l u)
-
-  pub carried : Bounded st.pool → (ev : Event) (o o' : Outcome) → o' ≡ o → ((ch : Choice) → outcome st ch ev ≡ roomed st o) → {a : Answer} {st' : State} → a ≡ answer_of st (roomed st o') → st' ≡ applied st (roomed st o') → Stepped st ev a st'
-  carried b ev o o' p e x y = plainly st (λ ch. outcome st ch ev) b (roomed st o') (λ ch. e ch ∙ ap (roomed st) (sym p)) x y
 
   -- without room, whatever the rule
   pub full_refused : (rule : Choice → Outcome) → Bounded st.pool → false ≡ is_roomy st → {x : Refused} → x ≡ record { ground = Ground.QueueFull; place = None } → Did st (λ ch. roomed st (rule ch)) (Answer.Step (Err x)) st

@@ -1,10 +1,8 @@
 //! Answers that touch no call, and the room for them.
 ghost use Rattle.std.specs.Prelude.{◌≡◌, ◌-◌, ◌≤◌, ◌&&◌, [], ◌∷◌, ◌++◌, length, None, nat_le};
-ghost use Rattle.refusals.specs.declared.Ground.TheVariants.{QueueFull};
-ghost use Rattle.queues.specs.Few.{listed};
 ghost use Rattle.queues.specs.Waiting.{waiting, room, free};
 ghost use Rattle.calls.specs.declared.outgoing.SipMessage.TheVariants.{Response};
-ghost use Rattle.calls.specs.Rules.{quiet as quietReport};
+ghost use Rattle.calls.specs.Rules.{quiet as quiet_report};
 ghost use Rattle.moves.specs.Answering.{rejecting};
 ghost use Rattle.gateway.specs.Stands.{placeless};
 
@@ -34,7 +32,7 @@ pub(crate) fn refused(why: Ground) -> Refused
 
 /// Nothing is seized, released or started.
 pub(crate) fn quiet() -> Report
-    ensures nothing_to_report { result ≡ quietReport }
+    ensures nothing_to_report { result ≡ quiet_report }
 {
     Report {
         seized: None,
@@ -51,7 +49,7 @@ pub(crate) fn reject(
     value: u8,
 ) -> Report
     requires room { 2 ≤ free exchange.old }
-    ensures report { result ≡ quietReport }
+    ensures report { result ≡ quiet_report }
     ensures size { room exchange.new ≡ room exchange.old }
     ensures list { waiting exchange.new ≡ waiting exchange.old ++ rejecting reference value ∷ [] }
 {
@@ -62,7 +60,7 @@ pub(crate) fn reject(
 /// The final response to an INVITE that makes no call.
 pub(crate) fn respond(sip: &mut Queue<'_, SipMessage>, transaction: u64, status: u16) -> Report
     requires room { 2 ≤ free sip.old }
-    ensures report { result ≡ quietReport }
+    ensures report { result ≡ quiet_report }
     ensures size { room sip.new ≡ room sip.old }
     ensures list { waiting sip.new ≡ waiting sip.old ++ Response transaction status ∷ [] }
 {

@@ -1,5 +1,5 @@
 //! Steps that seize a channel. What is seized travels as a token until it is entered with a call.
-ghost use Rattle.std.specs.Prelude.{◌≡◌, ℕ, ◌<◌, ◌≤◌, true, length, Some as «there-is», None, Ok as «is_ok», slice_index_or};
+ghost use Rattle.std.specs.Prelude.{◌≡◌, ℕ, ◌<◌, ◌≤◌, true, length, None, slice_index_or};
 ghost use Rattle.pools.specs.States.{after_any};
 ghost use Rattle.calls.specs.declared.answers.Answer.TheVariants.{Step};
 ghost use Rattle.calls.specs.declared.sides.ExchangeSide.TheVariants.{SetupSent};
@@ -57,10 +57,10 @@ impl<P: Pool> Gateway<P> {
         exchange: &mut Queue<'_, Message<Digits>>,
         sip: &mut Queue<'_, SipMessage>,
     ) -> Report
-        requires found { Within («there-is» found) self.old.table.places }
+        requires found { Within (Some found) self.old.table.places }
         requires waits { is_in SetupSent found.call.exchange ≡ true }
         requires roomy { is_roomy (state_of P.Pool.state self.old exchange.old sip.old) ≡ true }
-        ensures another_channel_or_none { Did (state_of P.Pool.state self.old exchange.old sip.old) (λ ch. Move found.place (tries_again ch.pick found.call)) (Step («is_ok» result)) (state_of P.Pool.state self.new exchange.new sip.new) }
+        ensures another_channel_or_none { Did (state_of P.Pool.state self.old exchange.old sip.old) (λ ch. Move found.place (tries_again ch.pick found.call)) (Step (Ok result)) (state_of P.Pool.state self.new exchange.new sip.new) }
     {
         let token = self.trunk.seize_any();
         let effect = tries_again(channel_of(&token), found.call);
@@ -80,7 +80,7 @@ impl<P: Pool> Gateway<P> {
         requires free { slice_index_or self.old.table.places place None ≡ None }
         requires few { length (heard_digits (seen_record message)) ≤ 20 }
         requires roomy { is_roomy (state_of P.Pool.state self.old exchange.old sip.old) ≡ true }
-        ensures as_the_wish_gets { Did (state_of P.Pool.state self.old exchange.old sip.old) (λ ch. wishes (state_of P.Pool.state self.old exchange.old sip.old) ch.pick (seen_record message.entry) place number message.entry.elements.channel) (Step («is_ok» result)) (state_of P.Pool.state self.new exchange.new sip.new) }
+        ensures as_the_wish_gets { Did (state_of P.Pool.state self.old exchange.old sip.old) (λ ch. wishes (state_of P.Pool.state self.old exchange.old sip.old) ch.pick (seen_record message.entry) place number message.entry.elements.channel) (Step (Ok result)) (state_of P.Pool.state self.new exchange.new sip.new) }
     {
         let wish = message.elements.channel;
         match seize_for(&mut self.trunk, wish) {
@@ -100,7 +100,7 @@ impl<P: Pool> Gateway<P> {
         sip: &mut Queue<'_, SipMessage>,
     ) -> Report
         requires roomy { is_roomy (state_of P.Pool.state self.old exchange.old sip.old) ≡ true }
-        ensures a_call_or_rejected { Did (state_of P.Pool.state self.old exchange.old sip.old) (λ ch. on_setup (state_of P.Pool.state self.old exchange.old sip.old) ch (seen_record message.entry)) (Step («is_ok» result)) (state_of P.Pool.state self.new exchange.new sip.new) }
+        ensures a_call_or_rejected { Did (state_of P.Pool.state self.old exchange.old sip.old) (λ ch. on_setup (state_of P.Pool.state self.old exchange.old sip.old) ch (seen_record message.entry)) (Step (Ok result)) (state_of P.Pool.state self.new exchange.new sip.new) }
     {
         if is_misdialled(message) {
             return reject(exchange, message.reference, INVALID_NUMBER_FORMAT);
@@ -125,7 +125,7 @@ impl<P: Pool> Gateway<P> {
     ) -> Report
         requires few { length digits.now ≤ 20 }
         requires roomy { is_roomy (state_of P.Pool.state self.old exchange.old sip.old) ≡ true }
-        ensures a_call_or_503 { Did (state_of P.Pool.state self.old exchange.old sip.old) (λ ch. calls_out transaction dialogue digits.now ch.place ch.pick) (Step («is_ok» result)) (state_of P.Pool.state self.new exchange.new sip.new) }
+        ensures a_call_or_503 { Did (state_of P.Pool.state self.old exchange.old sip.old) (λ ch. calls_out transaction dialogue digits.now ch.place ch.pick) (Step (Ok result)) (state_of P.Pool.state self.new exchange.new sip.new) }
     {
         let Some(place) = self.table.free() else {
             return respond(sip, transaction, SERVICE_UNAVAILABLE);

@@ -1,9 +1,9 @@
 //! One call for each kind of event, and the two takings.
-ghost use Rattle.std.specs.Prelude.{◌≡◌, true, false, Some as «there-is», OnErr};
-ghost use Rattle.calls.specs.declared.answers.Answer.TheVariants.{Step, Exchange as «took_exchange», Sip as «took_sip»};
+ghost use Rattle.std.specs.Prelude.{◌≡◌, true, false, OnErr};
+ghost use Rattle.calls.specs.declared.answers.Answer.TheVariants.{Step, Exchange as took_exchange, Sip as took_sip};
 ghost use Rattle.calls.specs.Words.{is_over};
 ghost use Rattle.calls.specs.Effects.{on_type};
-ghost use Rattle.calls.specs.Rules.{Did, Stepped, Exchange as «the-message», Invite, Cancel, Bye, Response as «the-response», Expiry as «the-expiry», CancelExpiry, TakeExchange, TakeSip, at as «at_place», seek, by_reference, on_message, uncalled, roomed, is_roomy, answer_of, applied};
+ghost use Rattle.calls.specs.Rules.{Did, Stepped, Event, Outcome, Choice, outcome, Exchange as the_message, Invite, Cancel, Bye, Response as the_response, Expiry as the_expiry, CancelExpiry, TakeExchange, TakeSip, at as at_place, seek, by_reference, on_message, uncalled, roomed, is_roomy, answer_of, applied};
 ghost use Rattle.desk.specs.Keys.{Within};
 ghost use Rattle.reader.specs.Seen.{seen_record};
 ghost use Rattle.decisions.specs.Outcomes.{outcome_of};
@@ -61,8 +61,7 @@ impl<P: Pool> Gateway<P> {
     ) -> Result<Report, Refused>
         requires possible_with_room { is_roomy (state_of P.Pool.state self.old exchange.old sip.old) ≡ true → Possible self.old.table.places (outcome_of decision) }
         ensures refusal_leaves_all { OnErr result ((self.new ≡ self.old) × (exchange.new ≡ exchange.old) × (sip.new ≡ sip.old)) }
-        ensures answer_of_the_outcome { Step result ≡ answer_of (state_of P.Pool.state self.old exchange.old sip.old) (roomed (state_of P.Pool.state self.old exchange.old sip.old) (outcome_of decision)) }
-        ensures outcome_applied { state_of P.Pool.state self.new exchange.new sip.new ≡ applied (state_of P.Pool.state self.old exchange.old sip.old) (roomed (state_of P.Pool.state self.old exchange.old sip.old) (outcome_of decision)) }
+        ensures a_step_of_each_event_that_comes_to_it { (event : Event) (outcome_is : Outcome) → outcome_of decision ≡ outcome_is → ((ch : Choice) → outcome (state_of P.Pool.state self.old exchange.old sip.old) ch event ≡ roomed (state_of P.Pool.state self.old exchange.old sip.old) outcome_is) → Stepped (state_of P.Pool.state self.old exchange.old sip.old) event (Step result) (state_of P.Pool.state self.new exchange.new sip.new) }
     {
         if has_room(exchange, sip) {
             self.settle(decision, exchange, sip)
@@ -110,7 +109,7 @@ impl<P: Pool> Gateway<P> {
         sip: &mut Queue<'_, SipMessage>,
     ) -> Result<Report, Refused>
         ensures refusal_leaves_all { OnErr result ((self.new ≡ self.old) × (exchange.new ≡ exchange.old) × (sip.new ≡ sip.old)) }
-        ensures steps_by_the_rules { Stepped (state_of P.Pool.state self.old exchange.old sip.old) («the-response» number status dialogue media) (Step result) (state_of P.Pool.state self.new exchange.new sip.new) }
+        ensures steps_by_the_rules { Stepped (state_of P.Pool.state self.old exchange.old sip.old) (the_response number status dialogue media) (Step result) (state_of P.Pool.state self.new exchange.new sip.new) }
     {
         if is_status(status) {
             let decision = on_response(&self.table, number, status, dialogue, media);
@@ -129,7 +128,7 @@ impl<P: Pool> Gateway<P> {
         sip: &mut Queue<'_, SipMessage>,
     ) -> Result<Report, Refused>
         ensures refusal_leaves_all { OnErr result ((self.new ≡ self.old) × (exchange.new ≡ exchange.old) × (sip.new ≡ sip.old)) }
-        ensures steps_by_the_rules { Stepped (state_of P.Pool.state self.old exchange.old sip.old) («the-expiry» timer reference) (Step result) (state_of P.Pool.state self.new exchange.new sip.new) }
+        ensures steps_by_the_rules { Stepped (state_of P.Pool.state self.old exchange.old sip.old) (the_expiry timer reference) (Step result) (state_of P.Pool.state self.new exchange.new sip.new) }
     {
         let decision = on_expiry_of(&self.table, timer, reference);
         self.carry_out(decision, exchange, sip)
@@ -157,11 +156,11 @@ impl<P: Pool> Gateway<P> {
         exchange: &mut Queue<'_, Message<Digits>>,
         sip: &mut Queue<'_, SipMessage>,
     ) -> Result<Report, Refused>
-        requires found { Within («there-is» found) self.old.table.places }
+        requires found { Within (Some found) self.old.table.places }
         requires live { is_over found.call.exchange ≡ false }
         requires roomy { is_roomy (state_of P.Pool.state self.old exchange.old sip.old) ≡ true }
         ensures refusal_leaves_all { OnErr result ((self.new ≡ self.old) × (exchange.new ≡ exchange.old) × (sip.new ≡ sip.old)) }
-        ensures by_type_and_state { Did (state_of P.Pool.state self.old exchange.old sip.old) (λ ch. «at_place» found.place (on_type self.old.full ch.pick (seen_record message.entry) found.call message.entry.kind)) (Step result) (state_of P.Pool.state self.new exchange.new sip.new) }
+        ensures by_type_and_state { Did (state_of P.Pool.state self.old exchange.old sip.old) (λ ch. at_place found.place (on_type self.old.full ch.pick (seen_record message.entry) found.call message.entry.kind)) (Step result) (state_of P.Pool.state self.new exchange.new sip.new) }
     {
         if wants_another(message, found.call) {
             Ok(self.retry(found, exchange, sip))
@@ -216,7 +215,7 @@ impl<P: Pool> Gateway<P> {
         sip: &mut Queue<'_, SipMessage>,
     ) -> Result<Report, Refused>
         ensures refusal_leaves_all { OnErr result ((self.new ≡ self.old) × (exchange.new ≡ exchange.old) × (sip.new ≡ sip.old)) }
-        ensures steps_by_the_rules { Stepped (state_of P.Pool.state self.old exchange.old sip.old) («the-message» octets.now) (Step result) (state_of P.Pool.state self.new exchange.new sip.new) }
+        ensures steps_by_the_rules { Stepped (state_of P.Pool.state self.old exchange.old sip.old) (the_message octets.now) (Step result) (state_of P.Pool.state self.new exchange.new sip.new) }
     {
         match read(octets) {
             Ok(message) => self.hear(message, exchange, sip),
@@ -257,7 +256,7 @@ impl<P: Pool> Gateway<P> {
         exchange: &mut Queue<'_, Message<Digits>>,
         sip: &Queue<'_, SipMessage>,
     ) -> Option<Message<Digits>>
-        ensures steps_by_the_rules { Stepped (state_of P.Pool.state self.now exchange.old sip.now) TakeExchange («took_exchange» result) (state_of P.Pool.state self.now exchange.new sip.now) }
+        ensures steps_by_the_rules { Stepped (state_of P.Pool.state self.now exchange.old sip.now) TakeExchange (took_exchange result) (state_of P.Pool.state self.now exchange.new sip.now) }
     {
         exchange.take()
     }
@@ -268,7 +267,7 @@ impl<P: Pool> Gateway<P> {
         exchange: &Queue<'_, Message<Digits>>,
         sip: &mut Queue<'_, SipMessage>,
     ) -> Option<SipMessage>
-        ensures steps_by_the_rules { Stepped (state_of P.Pool.state self.now exchange.now sip.old) TakeSip («took_sip» result) (state_of P.Pool.state self.now exchange.now sip.new) }
+        ensures steps_by_the_rules { Stepped (state_of P.Pool.state self.now exchange.now sip.old) TakeSip (took_sip result) (state_of P.Pool.state self.now exchange.now sip.new) }
     {
         sip.take()
     }

@@ -76,11 +76,11 @@ impl Pool for LinkPool {
 
     ghost top = { 31 };
 
-    ghost zero_unknown = { first_of (Prim.search rules, Prim.grind (arith, Self.row.coded.inj)) };
+    ghost zero_unknown = { Prim.search rules };
 
-    ghost known_within_top = { first_of (Prim.search rules, Prim.grind (arith, Self.row.coded.inj)) };
+    ghost known_within_top = { Prim.search rules };
 
-    ghost top_within_127 = { first_of (Prim.search rules, Prim.grind (arith, Self.row.coded.inj)) };
+    ghost top_within_127 = { Prim.search rules };
 
     fn largest_channel() -> u8 {
         Self::LARGEST

@@ -1,6 +1,6 @@
 //! Causes of a clearing, and the statuses that go with them.
 ghost use Rattle.std.specs.Prelude.{◌≡◌};
-ghost use Rattle.calls.specs.Effects.{ours as ownCause, code as statusFor, cause_for, is_unavailable};
+ghost use Rattle.calls.specs.Effects.{ours as own_cause, code as status_for, cause_for, is_unavailable};
 
 use causes::{cause_of, counted_cause, status_of};
 use messages::Cause;
@@ -12,7 +12,7 @@ const CHANNEL_UNAVAILABLE: u8 = 44;
 
 /// A cause of the gateway's own.
 pub fn ours(value: u8) -> Cause
-    ensures from_the_remote_network { result ≡ ownCause value }
+    ensures from_the_remote_network { result ≡ own_cause value }
 {
     Cause {
         value,
@@ -22,7 +22,7 @@ pub fn ours(value: u8) -> Cause
 
 /// The status for a clearing message, which need not carry a cause.
 pub fn code(cause: Option<Cause>) -> u16
-    ensures status_of_the_clearing { result ≡ statusFor cause }
+    ensures status_of_the_clearing { result ≡ status_for cause }
 {
     match cause {
         Some(given) => status_of(counted_cause(Some(given.value)), given.location),

@@ -1,6 +1,6 @@
 //! Messages to the exchange.
 ghost use Rattle.std.specs.Prelude.{◌≡◌};
-ghost use Rattle.calls.specs.Effects.{turned as turnedRound, said as saying, exclusively as thatAlone, tell as telling, tell_cause, tell_progress, setup_on};
+ghost use Rattle.calls.specs.Effects.{turned as turned_round, said as saying, exclusively as that_alone, tell as telling, tell_cause, tell_progress, setup_on};
 ghost use Rattle.moves.specs.Answering.{answering_setup, rejecting};
 
 use crate::clearing::ours;
@@ -9,7 +9,7 @@ use messages::{CallReference, Cause, Channel, Elements, Message, MessageType};
 
 /// The same reference as the other end sends it.
 fn turned(reference: CallReference) -> CallReference
-    ensures other_flag_same_number { result ≡ turnedRound reference }
+    ensures other_flag_same_number { result ≡ turned_round reference }
 {
     CallReference {
         flag: !reference.flag,
@@ -63,7 +63,7 @@ pub fn tell_progress(kind: MessageType, call: Call, progress: Option<u8>) -> Mes
 
 /// That channel and no other.
 fn exclusively(channel: u8) -> Option<Channel>
-    ensures that_channel_alone { result ≡ thatAlone channel }
+    ensures that_channel_alone { result ≡ that_alone channel }
 {
     Some(Channel {
         number: channel,

@@ -16,10 +16,10 @@ pub record Opened (pool : States) (full first exchange_places sip_places : ℕ) 
   pub exchange_places_lent : start.exchange_places ≡ exchange_places
   pub sip_places_lent : start.sip_places ≡ sip_places
 
--- from there the rules lead by exactly these events with these answers to the gateway's own calls and pool, and of that history and
--- that end the laws hold: of the channels that the pool had idle, of the INVITEs, of the dialogues, of the CONNECTs, of each call
+-- from there the rules lead by exactly these events with these answers to the gateway's own calls, pool, next number and full
+-- length, and of that history and that end the laws hold: of the channels that the pool had idle, of the INVITEs, of the dialogues, of the CONNECTs, of each call
 -- and of what waits
-pub record Played (pool : States) (full first exchange_places sip_places : ℕ) (events : List Event) (answers : List Answer) (table : List (Option Call)) (after : States) : Type 0 where
+pub record Played (pool : States) (full first exchange_places sip_places : ℕ) (events : List Event) (answers : List Answer) (table : List (Option Call)) (after : States) (next : Option ℕ) (kept : ℕ) : Type 0 where
   pub start : State
   pub begun : Opened pool full first exchange_places sip_places start
   pub past : List Happening
@@ -27,5 +27,7 @@ pub record Played (pool : States) (full first exchange_places sip_places : ℕ) 
   pub end : State
   pub calls : end.table ≡ table
   pub channels : end.pool ≡ after
+  pub next_number : end.next ≡ next
+  pub full_length_kept : end.full ≡ kept
   pub steps : Stepping start events answers end
   pub laws : Laws pool past end

@@ -21,7 +21,8 @@ pub enum NotPlayed {
     NoMemory,
 }
 
-/// A gateway is opened over a pool, with empty queues in the lent places, and run on the events.
+/// A gateway is opened over a pool, with empty queues in the lent places, and run on the events. What still waits at the end
+/// stays in the places and is not handed out.
 pub fn open_and_run<P: Pool + Drop>(
     full: usize,
     first: u64,
@@ -32,11 +33,14 @@ pub fn open_and_run<P: Pool + Drop>(
     sip_places: &mut [Option<SipMessage>],
 ) -> Result<(Gateway<P>, Vec<Answer>), NotPlayed>
     ensures laws_at_the_end { MatchResult result
-        (λ v. Played (P.Pool.state pool) full first (length exchange_places.old) (length sip_places.old) (map event_of events.now) v.1.items v.0.table.places (P.Pool.state v.0.trunk.pool))
+        (λ v. Played (P.Pool.state pool) full first (length exchange_places.old) (length sip_places.old) (map event_of events.now) v.1.items v.0.table.places (P.Pool.state v.0.trunk.pool) v.0.next v.0.full)
         (λ _. Unit {0}) }
     ensures not_played_for_a_setting_or_memory { MatchResult result
         (λ _. InRange full first)
         (λ e. elim e [ NotPlayed.Refused why ↦ (InRange full first → ⊥) × (why ≡ SettingOutOfRange) | NotPlayed.NoMemory ↦ InRange full first ]) }
+    ensures refused_settings_leave_the_places { MatchResult result
+        (λ _. Unit {0})
+        (λ e. elim e [ NotPlayed.Refused why ↦ (exchange_places.new ≡ exchange_places.old) × (sip_places.new ≡ sip_places.old) | NotPlayed.NoMemory ↦ Unit {0} ]) }
 {
     let mut gateway = match Gateway::open(full, first, pool) {
         Ok(gateway) => gateway,

@@ -1,13 +1,13 @@
 //! The numbers of the calls that SETUPs make.
 ghost use Rattle.std.specs.Prelude.{◌≡◌};
-ghost use Rattle.calls.specs.Rules.{following as nextOne};
+ghost use Rattle.calls.specs.Rules.{following as next_one};
 
 /// The last number that there is.
 const LAST: u64 = 18_446_744_073_709_551_615;
 
 /// The number of the next call, after a step that used up one or did not. None is used twice: after the last there is none.
 pub fn following(numbered: bool, next: Option<u64>) -> Option<u64>
-    ensures one_more_until_the_last { result ≡ nextOne numbered next }
+    ensures one_more_until_the_last { result ≡ next_one numbered next }
 {
     match next {
         Some(number) if numbered => {

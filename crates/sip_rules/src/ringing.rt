@@ -1,6 +1,6 @@
 //! Provisional responses: what the exchange is told of the called party.
 ghost use Rattle.std.specs.Prelude.{◌≡◌, Some};
-ghost use Rattle.calls.specs.Effects.{rests as resting, announces as announcing, alerts as alerting, rings as ringing, tell_progress, provisional as onProvisional};
+ghost use Rattle.calls.specs.Effects.{rests as resting, announces as announcing, alerts as alerting, rings as ringing, tell_progress, provisional as on_provisional};
 ghost use Rattle.moves.specs.Moves.{effect_of};
 ghost use Rattle.sip_rules.specs.Hearing.{spread};
 
@@ -99,7 +99,7 @@ fn rings(call: Call, status: u16, media: bool, told: Told) -> Effect
 
 /// A provisional response; while CANCEL is out it is taken, and nothing is sent.
 pub fn provisional(call: Call, status: u16, media: bool) -> Effect
-    ensures told_while_the_invite_is_out { effect_of result ≡ onProvisional call status media call.sip }
+    ensures told_while_the_invite_is_out { effect_of result ≡ on_provisional call status media call.sip }
 {
     match call.sip {
         SipSide::InviteSent { told } => rings(call, status, media, told),

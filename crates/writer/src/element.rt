@@ -1,5 +1,5 @@
 //! One information element, written through a guard that sets the length octet when it ends.
-ghost use Rattle.std.specs.Prelude.{◌≡◌, ◌+◌, ◌<◌, ◌≤◌, ◌∷◌, ◌++◌, length, is_ok, if◌then◌else◌, slice_set};
+ghost use Rattle.std.specs.Prelude.{◌≡◌, ◌+◌, ◌<◌, ◌∷◌, length, is_ok, if◌then◌else◌, slice_set};
 ghost use Rattle.messages.specs.Writing.{element};
 ghost use Rattle.writer.specs.Element.{room_for, ShortOnly, element_buffer, element_answer};
 

@@ -24,8 +24,11 @@ returns-in-Ok-run g c =
         end = end;
         calls = refl;
         channels = refl;
+        next_number = refl;
+        full_length_kept = refl;
         steps = c.in-Ok-run.ensures.steps_by_the_rules;
         laws = subst (λ (p : States). Laws p x.more end) over laws;
       };
       not_played_for_a_setting_or_memory = c.in-Ok.ensures.granted_exactly_in_range;
+      refused_settings_leave_the_places = tt;
     }

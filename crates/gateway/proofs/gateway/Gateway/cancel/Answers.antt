@@ -2,7 +2,7 @@ use Rattle.std.proofs.Common.{refl}
 use Rattle.calls.specs.Rules.{Cancel, on_leave, seek, by_transaction}
 use Rattle.calls.proofs.Dids.{bounded}
 use Rattle.gateway.specs.Stands.{state_of}
-use Rattle.gateway.proofs.Ways.{possible_step, carried}
+use Rattle.gateway.proofs.Ways.{possible_step}
 use Rattle.gateway.proofs.Unseizing.{leave_still}
 use Rattle.gateway.proofs.gateway.Gateway.cancel.Goals as goal
 
@@ -10,13 +10,4 @@ pub carry_out-requires : goal.carry_out-requires
 carry_out-requires g c =
     let st = state_of g.P.Pool.state c.args.self.now c.args.exchange.now c.args.sip.now in
     let b = bounded g.P.Pool.state g.P.Pool.top g.met.P.Pool.known_within_top g.met.P.Pool.top_within_127 c.args.self.now.trunk.pool in
-    record { possible_with_room = possible_step st c.args.self.now.table.whole c.args.self.now.sound b (Cancel c.args.transaction) (on_leave (seek (by_transaction c.args.transaction) st.table)) _ c.on_cancel-decision.ensures.the_unanswered_call_is_left (λ ch. refl) (leave_still (seek (by_transaction c.args.transaction) st.table)) }
-
-pub returns : goal.returns
-returns g c =
-    let st = state_of g.P.Pool.state c.args.self.now c.args.exchange.now c.args.sip.now in
-    let b = bounded g.P.Pool.state g.P.Pool.top g.met.P.Pool.known_within_top g.met.P.Pool.top_within_127 c.args.self.now.trunk.pool in
-    record {
-      refusal_leaves_all = c.carry_out.ensures.refusal_leaves_all;
-      steps_by_the_rules = carried st b (Cancel c.args.transaction) (on_leave (seek (by_transaction c.args.transaction) st.table)) _ c.on_cancel-decision.ensures.the_unanswered_call_is_left (λ ch. refl) c.carry_out.ensures.answer_of_the_outcome c.carry_out.ensures.outcome_applied;
-    }
+    record { possible_with_room = possible_step st c.args.self.now.table.whole c.args.self.now.sound b (Cancel _) (on_leave (seek (by_transaction _) st.table)) _ c.on_cancel-decision.ensures.the_unanswered_call_is_left (λ ch. refl) (leave_still _) }

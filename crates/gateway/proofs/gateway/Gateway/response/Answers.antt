@@ -7,7 +7,7 @@ use Rattle.calls.specs.Rules.{Response, roomed, refuse, is_status}
 use Rattle.calls.proofs.Dids.{bounded, plainly}
 use Rattle.decisions.specs.Outcomes.{responded}
 use Rattle.gateway.specs.Stands.{state_of}
-use Rattle.gateway.proofs.Ways.{possible_step, carried}
+use Rattle.gateway.proofs.Ways.{possible_step}
 use Rattle.gateway.proofs.Unseizing.{response_still}
 use Rattle.gateway.proofs.gateway.Gateway.response.Goals as goal
 
@@ -15,31 +15,15 @@ pub carry_out-requires : goal.carry_out-requires
 carry_out-requires g c =
     let st = state_of g.P.Pool.state c.args.self.now c.args.exchange.now c.args.sip.now in
     let b = bounded g.P.Pool.state g.P.Pool.top g.met.P.Pool.known_within_top g.met.P.Pool.top_within_127 c.args.self.now.trunk.pool in
-    let o = responded st.table c.args.number c.args.status c.args.dialogue c.args.media in
     record {
-      possible_with_room = possible_step st c.args.self.now.table.whole c.args.self.now.sound b (Response c.args.number c.args.status c.args.dialogue c.args.media) o _ c.on_response-decision.ensures.by_the_status
-          (λ ch. cond-true (is_status c.args.status) (roomed st o) (refuse Ground.StatusOutOfRange) (sym c.if-is_status.ensures.from_100_to_699))
-          (response_still st.table c.args.number c.args.status c.args.dialogue c.args.media);
+      possible_with_room = possible_step st c.args.self.now.table.whole c.args.self.now.sound b (Response _ c.args.status _ _) (responded st.table _ c.args.status _ _) _ c.on_response-decision.ensures.by_the_status
+          (λ ch. cond-true (is_status c.args.status) (roomed st _) (refuse Ground.StatusOutOfRange) (sym c.if-is_status.ensures.from_100_to_699))
+          (response_still st.table _ c.args.status _ _);
     }
 
-pub returns-then-is_status : goal.returns-then-is_status
-returns-then-is_status g c =
+pub returns-else-is_status-clause-steps_by_the_rules : goal.returns-else-is_status-clause-steps_by_the_rules
+returns-else-is_status-clause-steps_by_the_rules g c =
     let st = state_of g.P.Pool.state c.args.self.now c.args.exchange.now c.args.sip.now in
     let b = bounded g.P.Pool.state g.P.Pool.top g.met.P.Pool.known_within_top g.met.P.Pool.top_within_127 c.args.self.now.trunk.pool in
     let o = responded st.table c.args.number c.args.status c.args.dialogue c.args.media in
-    record {
-      refusal_leaves_all = c.carry_out.ensures.refusal_leaves_all;
-      steps_by_the_rules = carried st b (Response c.args.number c.args.status c.args.dialogue c.args.media) o _ c.on_response-decision.ensures.by_the_status
-          (λ ch. cond-true (is_status c.args.status) (roomed st o) (refuse Ground.StatusOutOfRange) (sym c.if-is_status.ensures.from_100_to_699))
-          c.carry_out.ensures.answer_of_the_outcome c.carry_out.ensures.outcome_applied;
-    }
-
-pub returns-else-is_status : goal.returns-else-is_status
-returns-else-is_status g c =
-    let st = state_of g.P.Pool.state c.args.self.now c.args.exchange.now c.args.sip.now in
-    let b = bounded g.P.Pool.state g.P.Pool.top g.met.P.Pool.known_within_top g.met.P.Pool.top_within_127 c.args.self.now.trunk.pool in
-    let o = responded st.table c.args.number c.args.status c.args.dialogue c.args.media in
-    record {
-      refusal_leaves_all = (refl, refl, refl);
-      steps_by_the_rules = plainly st _ b (refuse Ground.StatusOutOfRange) (λ ch. cond-false (is_status c.args.status) (roomed st o) (refuse Ground.StatusOutOfRange) (sym c.if-is_status.ensures.from_100_to_699)) (ap (λ (x : Refused). Answer.Step (Err x)) c.refused.ensures.without_a_place) refl;
-    }
+    plainly st _ b (refuse Ground.StatusOutOfRange) (λ ch. cond-false (is_status c.args.status) (roomed st o) (refuse Ground.StatusOutOfRange) (sym c.if-is_status.ensures.from_100_to_699)) (ap (λ (x : Refused). Answer.Step (Err x)) c.refused.ensures.without_a_place) refl
