@@ -1,3 +1,4 @@
+pub mod Refusing
 pub mod Words
 pub mod Standing
 pub mod Effects

@@ -3,12 +3,14 @@
 #![tactic(auto)]
 
 mod answers;
+mod incoming;
 mod laws;
 mod outgoing;
 mod record;
 mod sides;
 
 pub use answers::{Answer, Refused, Report, Timer};
+pub use incoming::{Invite, Response};
 pub use laws::{collisions_stand, examples_stand, run_law_stands};
 pub use outgoing::SipMessage;
 pub use record::{Call, Digits};

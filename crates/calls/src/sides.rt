@@ -1,7 +1,7 @@
 use messages::Cause;
 
 /// How far a call has come on the side of the exchange.
-#[derive(Clone, Copy)]
+#[derive(Clone, Copy, PartialEq, Eq, Debug)]
 pub enum ExchangeSide {
     Over,
     /// SETUP came, and digits are awaited.
@@ -26,7 +26,7 @@ pub enum ExchangeSide {
 
 /// What the exchange has been told of the called party while the INVITE is out: ALERTING, and PROGRESS with description 1
 /// (interworking: the call is not QSIG from end to end) or 8 (tones or speech are to be heard in band).
-#[derive(Clone, Copy)]
+#[derive(Clone, Copy, PartialEq, Eq, Debug, Default)]
 pub struct Told {
     pub alerting: bool,
     pub interworking: bool,
@@ -34,9 +34,10 @@ pub struct Told {
 }
 
 /// How far a call has come on the side of SIP.
-#[derive(Clone, Copy)]
+#[derive(Clone, Copy, PartialEq, Eq, Debug)]
 pub enum SipSide {
-    /// Over, or not begun.
+    /// Over, or not begun. One of the five states that the rules name: an `Option` round the other four would put two patterns in
+    /// the place of one in every rule.
     None,
     InviteSent { told: Told },
     InviteUnanswered { transaction: u64, dialogue: u64 },

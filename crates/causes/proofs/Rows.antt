@@ -1,25 +1,16 @@
 -- A lookup in a table of pairs, whatever the table.
-use Rattle.std.proofs.Common.{◌≡◌, ℕ, ◌+◌, ◌<◌, ◌≤◌, true, false, cond, ◌&&◌, eqb, List, [], ◌∷◌, length, get_or, drop, sym, refl, ◌∙◌, subst, lit≤, rules}
-use Rattle.std.proofs.lemmas.List.{at_drop_more, at_drop_all}
-use Rattle.std.proofs.lemmas.Bool.{eq-eqb, ne_eqb, cond-true, cond-false, and_parts}
+use Rattle.std.proofs.Common.{◌≡◌, ℕ, ◌≤◌, true, false, cond, ◌&&◌, eqb, List, [], ◌∷◌, Some, sym, refl, subst, lit≤, rules}
+use Rattle.std.specs.List.{find}
+use Rattle.std.specs.Option.{option_map_or}
+use Rattle.std.proofs.lemmas.Bool.{and_parts}
 use Rattle.causes.specs.Mapping.{cause_rows, second_of, Between, within, all_within, status_of}
 
--- a lookup that has come to row `i` with the answer still ahead
-module _ (rows : List (ℕ × ℕ)) (key other i : ℕ) (ahead : second_of (drop i rows) key other ≡ second_of rows key other) where
-  onward : (d : ℕ × ℕ) → i < length rows → second_of (get_or rows i d ∷ drop (i + 1) rows) key other ≡ second_of rows key other
-  onward d lt = sym (at_drop_more (λ l. second_of l key other) rows i d lt) ∙ ahead
-
-  -- the row begins with the key: it has the answer
-  pub hit : (d : ℕ × ℕ) → i < length rows → (get_or rows i d).0 ≡ key → (get_or rows i d).1 ≡ second_of rows key other
-  hit d lt e = sym (cond-true _ _ _ (eq-eqb _ _ e)) ∙ onward d lt
-
-  -- the row begins with another number: the rows after it have the answer
-  pub miss : (d : ℕ × ℕ) → i < length rows → ((get_or rows i d).0 ≡ key → ⊥) → second_of (drop (i + 1) rows) key other ≡ second_of rows key other
-  miss d lt e = sym (cond-false _ _ _ (ne_eqb _ _ e)) ∙ onward d lt
-
-  -- there is no row left
-  pub ended : length rows ≤ i → other ≡ second_of rows key other
-  ended le = sym (at_drop_all (λ l. second_of l key other) rows i le) ∙ ahead
+-- the lookup is a search for the first row that begins with the key
+pub searched : (rows : List (ℕ × ℕ)) (key other : ℕ) → option_map_or (λ row. row.1) (find (λ row. eqb row.0 key) rows) other ≡ second_of rows key other
+searched [] key other = refl
+searched (row ∷ rest) key other =
+    let later = searched rest key other in
+    elim (eqb row.0 key) as (λ v. option_map_or (λ row. row.1) (cond v (Some row) (find (λ row. eqb row.0 key) rest)) other ≡ cond v row.1 (second_of rest key other)) [ true ↦ refl | false ↦ later ]
 
 found : (rows : List (ℕ × ℕ)) (key other : ℕ) → Between rows other (second_of rows key other)
 found [] key other low high h = search rules

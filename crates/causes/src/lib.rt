@@ -5,20 +5,25 @@ ghost use Rattle.std.specs.Prelude.{◌≡◌, ◌≤◌, true};
 ghost use Rattle.causes.specs.Mapping.{status_rows, second_of, Between, status_of, location_of, cause_of, counted_cause};
 ghost use Rattle.causes.specs.Examples.{CauseExamples};
 
+use messages::Cause;
+
+const USER_BUSY: u8 = 17;
+
 const CALL_REJECTED: u8 = 21;
 
 const NORMAL_UNSPECIFIED: u8 = 31;
 
 // Locations of a cause: the user, and the private network that serves the remote user.
-const USER: u8 = 0;
+pub const USER: u8 = 0;
 
-const REMOTE_PRIVATE_NETWORK: u8 = 5;
+pub const REMOTE_PRIVATE_NETWORK: u8 = 5;
 
 const DECLINE: u16 = 603;
 
 const SERVER_INTERNAL_ERROR: u16 = 500;
 
 // A cause value and the status that answers an INVITE whose call was cleared with it.
+// Numbers of one type in both tables: over type parameters the promise of `beside` would speak of each type's own equality in place of numbers.
 const CAUSE_TO_STATUS: [(u16, u16); 30] = [
     (1, 404),
     (2, 404),
@@ -98,23 +103,24 @@ fn beside(rows: &[(u16, u16)], key: u16, other: u16) -> u16
     ensures value { result ≡ second_of rows.now key other }
     ensures between { Between rows.now other result }
 {
-    for (known, answer) in rows {
-        if *known == key {
-            return *answer;
-        }
-    }
-    other
+    rows.iter()
+        .find(|(known, _)| *known == key)
+        .map_or(other, |(_, answer)| *answer)
 }
 
 // The status of the final response to an INVITE whose call was cleared with this cause.
-pub fn status_of(cause: u8, location: u8) -> u16
-    ensures status_of_the_cause { result ≡ status_of cause location }
+pub fn status_of(cause: Cause) -> u16
+    ensures status_of_the_cause { result ≡ status_of cause.value cause.location }
     ensures final_failure { (300 ≤ result) × (result ≤ 699) }
 {
-    if cause == CALL_REJECTED && location == USER {
+    if cause.value == CALL_REJECTED && cause.location == USER {
         DECLINE
     } else {
-        beside(&CAUSE_TO_STATUS, u16::from(cause), SERVER_INTERNAL_ERROR)
+        beside(
+            &CAUSE_TO_STATUS,
+            u16::from(cause.value),
+            SERVER_INTERNAL_ERROR,
+        )
     }
 }
 
@@ -122,10 +128,7 @@ pub fn status_of(cause: u8, location: u8) -> u16
 pub fn counted_cause(cause: Option<u8>) -> u8
     ensures absent_counts_as_unspecified { result ≡ counted_cause cause }
 {
-    match cause {
-        Some(value) => value,
-        None => NORMAL_UNSPECIFIED,
-    }
+    cause.unwrap_or(NORMAL_UNSPECIFIED)
 }
 
 // The cause value for a final response with this status, as its element can hold it.
@@ -133,7 +136,7 @@ fn listed_cause(status: u16) -> u16
     ensures cause_of_the_status { result ≡ second_of status_rows status 31 }
     ensures seven_bits { (0 ≤ result) × (result ≤ 127) }
 {
-    beside(&STATUS_TO_CAUSE, status, NORMAL_UNSPECIFIED as u16)
+    beside(&STATUS_TO_CAUSE, status, u16::from(NORMAL_UNSPECIFIED))
 }
 
 // Where the cause for a status comes from: 6xx responses speak for the user.
@@ -146,12 +149,15 @@ fn location_of(status: u16) -> u8
     }
 }
 
-// The cause value and its location with which a final response of this status clears the call.
-pub fn cause_of(status: u16) -> (u8, u8)
-    ensures cause_and_location_of_the_status { result ≡ cause_of status }
-    ensures fits_the_element { (result.0 ≤ 127) × (result.1 ≤ 15) }
+// The cause with which a final response of this status clears the call.
+pub fn cause_of(status: u16) -> Cause
+    ensures cause_and_location_of_the_status { (result.value, result.location) ≡ cause_of status }
+    ensures fits_the_element { (result.value ≤ 127) × (result.location ≤ 15) }
 {
-    (listed_cause(status) as u8, location_of(status))
+    Cause {
+        value: listed_cause(status) as u8,
+        location: location_of(status),
+    }
 }
 
 // Single answers that both tables have to give; true, as the calls do give them.
@@ -159,10 +165,24 @@ pub fn cause_examples_stand() -> bool
     ensures examples { CauseExamples }
     ensures so_answered { result ≡ true }
 {
-    let (busy_here, busy_everywhere) = (cause_of(486), cause_of(600));
-    let (by_user, elsewhere) = (
-        status_of(CALL_REJECTED, USER),
-        status_of(CALL_REJECTED, REMOTE_PRIVATE_NETWORK),
-    );
-    busy_here == (17, 5) && busy_everywhere == (17, 0) && by_user == 603 && elsewhere == 403
+    let busy_here = Cause {
+        value: USER_BUSY,
+        location: REMOTE_PRIVATE_NETWORK,
+    };
+    let busy_everywhere = Cause {
+        location: USER,
+        ..busy_here
+    };
+    let rejected_elsewhere = Cause {
+        value: CALL_REJECTED,
+        ..busy_here
+    };
+    let rejected_by_user = Cause {
+        value: CALL_REJECTED,
+        ..busy_everywhere
+    };
+    cause_of(486) == busy_here
+        && cause_of(600) == busy_everywhere
+        && status_of(rejected_by_user) == 603
+        && status_of(rejected_elsewhere) == 403
 }

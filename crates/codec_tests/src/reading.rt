@@ -299,13 +299,12 @@ const REFUSED: [(&str, &str); 45] = [
 ];
 
 fn holds(rt: &impl Abort, heap: Global, cases: &[(&str, &str)]) -> Result<(), Fail> {
-    for case in cases {
-        let line = match answer_to(heap, case.0.as_bytes())? {
-            Answer::Message(line) => line,
-            Answer::Refused(line) => line,
+    for (octets, told) in cases {
+        let line = match answer_to(heap, octets.as_bytes())? {
+            Answer::Message(line) | Answer::Refused(line) => line,
             Answer::NotHex => return Err(Fail::new("not hex")),
         };
-        assert_eq!(rt; line.as_str(), case.1, "{}", case.0);
+        assert_eq!(rt; line.as_str(), *told, "{octets}");
     }
     Ok(())
 }

@@ -9,14 +9,6 @@ const OLD: u8 = 0xee;
 
 const ROOM: usize = 48;
 
-const BARE: Elements<&'static [u8]> = Elements {
-    complete: false,
-    cause: None,
-    channel: None,
-    progress: None,
-    digits: None,
-};
-
 fn message(
     flag: bool,
     number: u16,
@@ -48,10 +40,7 @@ fn is_written(
     octets: &[u8],
 ) -> Result<(), Fail> {
     let mut buffer = vec![in heap; OLD; room]?;
-    match write(buffer.as_mut_slice(), message) {
-        Ok(size) => assert_eq!(rt; size, octets.len()),
-        Err(ground) => return Err(Fail::new(ground.text())),
-    }
+    assert_eq!(rt; write(buffer.as_mut_slice(), message)?, octets.len());
     begins_with(rt, buffer.as_slice(), octets);
     Ok(())
 }
@@ -65,10 +54,8 @@ fn is_refused(
     number: u8,
 ) -> Result<(), Fail> {
     let mut buffer = vec![in heap; OLD; room]?;
-    match write(buffer.as_mut_slice(), message) {
-        Ok(_) => return Err(Fail::new("written")),
-        Err(ground) => assert_eq!(rt; ground.number(), number),
-    }
+    let refused = write(buffer.as_mut_slice(), message).map_err(|ground| ground.number());
+    assert_eq!(rt; refused, Err(number));
     begins_with(rt, buffer.as_slice(), &[]);
     Ok(())
 }
@@ -80,20 +67,16 @@ fn setup(
 ) -> Elements<&'static [u8]> {
     Elements {
         complete,
-        cause: None,
         channel,
-        progress: None,
         digits,
+        ..Elements::bare()
     }
 }
 
 fn cleared(value: u8, location: u8) -> Elements<&'static [u8]> {
     Elements {
-        complete: false,
         cause: Some(Cause { value, location }),
-        channel: None,
-        progress: None,
-        digits: None,
+        ..Elements::bare()
     }
 }
 
@@ -106,11 +89,8 @@ fn on(number: u8) -> Option<Channel> {
 
 fn described(description: u8) -> Elements<&'static [u8]> {
     Elements {
-        complete: false,
-        cause: None,
-        channel: None,
         progress: Some(description),
-        digits: None,
+        ..Elements::bare()
     }
 }
 
@@ -151,7 +131,7 @@ fn messages_are_written(rt: HostRuntime) -> Result<(), Fail> {
     is_written(
         &rt,
         heap,
-        message(true, 32767, MessageType::Connect, BARE),
+        message(true, 32767, MessageType::Connect, Elements::bare()),
         5,
         b"\x08\x02\xff\xff\x07",
     )?;
@@ -196,14 +176,14 @@ fn fields_out_of_range_are_refused(rt: HostRuntime) -> Result<(), Fail> {
     is_refused(
         &rt,
         heap,
-        message(false, 0, MessageType::Connect, BARE),
+        message(false, 0, MessageType::Connect, Elements::bare()),
         ROOM,
         10,
     )?;
     is_refused(
         &rt,
         heap,
-        message(false, 32768, MessageType::Connect, BARE),
+        message(false, 32768, MessageType::Connect, Elements::bare()),
         ROOM,
         10,
     )?;
@@ -319,14 +299,14 @@ fn checks_are_made_in_their_order(rt: HostRuntime) -> Result<(), Fail> {
     is_refused(
         &rt,
         heap,
-        message(false, 5, MessageType::Connect, BARE),
+        message(false, 5, MessageType::Connect, Elements::bare()),
         4,
         9,
     )?;
     is_refused(
         &rt,
         heap,
-        message(false, 5, MessageType::Connect, BARE),
+        message(false, 5, MessageType::Connect, Elements::bare()),
         0,
         9,
     )
@@ -335,10 +315,8 @@ fn checks_are_made_in_their_order(rt: HostRuntime) -> Result<(), Fail> {
 #[test]
 fn an_element_without_room_counts_what_it_put(rt: HostRuntime) -> Result<(), Fail> {
     let mut bytes = [OLD; 4];
-    match write_element(&mut bytes, 0x70, 0x80, b"123") {
-        Ok(_) => return Err(Fail::new("written")),
-        Err(ground) => assert_eq!(rt; ground.number(), 9),
-    }
+    let refused = write_element(&mut bytes, 0x70, 0x80, b"123").map_err(|ground| ground.number());
+    assert_eq!(rt; refused, Err(9));
     assert_eq!(rt; &bytes[0..4], b"\x70\x02\x801".as_slice());
     Ok(())
 }

@@ -1,5 +1,5 @@
 -- What a decision of the code stands for among the outcomes of the rules, and the parts of the rules that leave nothing open.
-use Rattle.std.specs.Prelude.{ℕ, Bool, true, false, cond, ◌&&◌, List, [], Some, None, Option}
+use Rattle.std.specs.Prelude.{ℕ, Bool, true, false, cond, ◌&&◌, List, [], Some, None, Ok, Err, Option, Result}
 use Rattle.refusals.specs.declared.Ground.{Ground}
 use Rattle.messages.specs.declared.kind.MessageType.{MessageType}
 use Rattle.messages.specs.declared.record.Channel.{Channel}
@@ -14,12 +14,12 @@ use Rattle.pools.specs.declared.channel.ChannelState.TheVariants.{Unknown}
 use Rattle.calls.specs.Rules.{Outcome, Found, State, refuse, rejects, on_response}
 use Rattle.calls.specs.Rules as rules
 use Rattle.moves.specs.Moves.{effect_of}
-use Rattle.decisions.specs.declared.decision.Decision.{Decision}
+use Rattle.decisions.specs.declared.action.Action.{Action}
 
-abbrev pub outcome_of : Decision → Outcome
-outcome_of (Decision.Refuse g) = refuse g
-outcome_of (Decision.Reply ms ss) = rules.Reply (listed ms) (listed ss)
-outcome_of (Decision.Move i e) = rules.Move i (effect_of e)
+abbrev pub outcome_of : Result Action Ground → Outcome
+outcome_of (Err g) = refuse g
+outcome_of (Ok (Action.Reply ms ss)) = rules.Reply (listed ms) (listed ss)
+outcome_of (Ok (Action.Move i e)) = rules.Move i (effect_of e)
 
 -- these calls and nothing beside them, for a rule that asks the calls alone
 abbrev pub calls_alone : List (Option Call) → State

@@ -3,9 +3,9 @@ ghost use Rattle.std.specs.Prelude.{◌≡◌, None};
 ghost use Rattle.calls.specs.Effects.{on_type, on_expiry};
 ghost use Rattle.calls.specs.Rules.{seek, by_reference, at as at_place, at_call};
 ghost use Rattle.reader.specs.Seen.{seen_record};
-ghost use Rattle.decisions.specs.Outcomes.{outcome_of, turned_away, is_release_complete, wants_another, busy_cause};
+ghost use Rattle.decisions.specs.Outcomes.{outcome_of, turned_away, wants_another, busy_cause};
 
-use crate::decision::{Decision, at};
+use crate::action::Action;
 use calls::{Call, Timer};
 use desk::{Found, Key, Table};
 use exchange_rules::{asks_for_another, on_expiry, on_message};
@@ -21,37 +21,32 @@ const REQUESTED_CHANNEL_UNAVAILABLE: u8 = 44;
 const INVALID_CALL_REFERENCE: u8 = 81;
 
 /// A message at the call that it found, where it asks for no other channel.
-pub fn on_heard(full: usize, message: Message<Part<'_>>, found: Found) -> Decision
+pub fn on_heard(full: usize, message: Message<Part<'_>>, found: Found) -> Result<Action, Ground>
     ensures by_type_and_state { outcome_of result ≡ at_place found.place (on_type full None (seen_record message.entry) found.call message.entry.kind) }
 {
-    at(found.place, on_message(full, None, message, found.call))
-}
-
-fn is_release_complete(kind: MessageType) -> bool
-    ensures release_complete_alone { result ≡ is_release_complete kind }
-{
-    matches!(kind, MessageType::ReleaseComplete)
+    let effect = on_message(full, None, message, found.call)?;
+    Ok(Action::at(found, effect))
 }
 
 /// Whether a message asks for another channel for the gateway's own SETUP.
 pub fn wants_another(message: Message<Part<'_>>, call: Call) -> bool
     ensures setup_refused_for_its_channel { result ≡ wants_another (seen_record message.entry) call }
 {
-    is_release_complete(message.kind) && asks_for_another(call.exchange, message.elements.cause)
+    message.kind == MessageType::ReleaseComplete
+        && asks_for_another(call.exchange, message.elements.cause)
 }
 
 /// A message other than SETUP that found no call.
-pub fn turned_away(message: Message<Part<'_>>) -> Decision
+pub fn turned_away(message: Message<Part<'_>>) -> Result<Action, Ground>
     ensures answered_unless_release_complete { outcome_of result ≡ turned_away (seen_record message.entry) message.entry.kind }
 {
-    if is_release_complete(message.kind) {
-        Decision::Refuse(Ground::NoSuchCall)
-    } else {
-        Decision::Reply {
-            exchange: Few::One(rejection(message.reference, INVALID_CALL_REFERENCE)),
-            sip: Few::Zero,
-        }
+    if message.kind == MessageType::ReleaseComplete {
+        return Err(Ground::NoSuchCall);
     }
+    Ok(Action::Reply {
+        exchange: Few::One(rejection(message.reference, INVALID_CALL_REFERENCE)),
+        sip: Few::Zero,
+    })
 }
 
 /// The cause where the wish for a channel gets none.
@@ -65,11 +60,12 @@ pub fn busy_cause(wish: Option<Channel>) -> u8
 }
 
 /// The expiry of a timer of the exchange side, by the reference as the exchange sends it.
-pub fn on_expiry_of(table: &Table, timer: Timer, reference: CallReference) -> Decision
+pub fn on_expiry_of(table: &Table, timer: Timer, reference: CallReference) -> Result<Action, Ground>
     ensures at_the_call_that_the_exchange_means { outcome_of result ≡ at_call (on_expiry timer) (seek (by_reference reference) table.now.places) }
 {
-    match table.find(Key::Reference(reference)) {
-        None => Decision::Refuse(Ground::NoSuchCall),
-        Some(found) => at(found.place, on_expiry(timer, found.call)),
-    }
+    let found = table
+        .find(Key::Reference(reference))
+        .ok_or(Ground::NoSuchCall)?;
+    let effect = on_expiry(timer, found.call)?;
+    Ok(Action::at(found, effect))
 }

@@ -1,13 +1,14 @@
 //! Events from SIP.
-ghost use Rattle.std.specs.Prelude.{◌≡◌, true, ◌&&◌, nat_le};
+ghost use Rattle.std.specs.Prelude.{◌≡◌, true, Ok};
+ghost use Rattle.std.specs.Result.{result_err};
 ghost use Rattle.calls.specs.Words.{holds_dialogue};
 ghost use Rattle.calls.specs.Effects.{on_cancel_expiry};
 ghost use Rattle.calls.specs.Rules.{seek, by_transaction, by_number, at_call, on_leave, another, on_ok, on_other, is_status};
 ghost use Rattle.desk.specs.Keys.{found_of};
 ghost use Rattle.decisions.specs.Outcomes.{outcome_of, responded, invite_refusal};
 
-use crate::decision::{Decision, at};
-use calls::SipMessage;
+use crate::action::Action;
+use calls::{Invite, Response, SipMessage};
 use desk::{Found, Key, Table};
 use queues::few::Few;
 use refusals::Ground;
@@ -19,51 +20,40 @@ const OK: u16 = 200;
 pub fn is_status(status: u16) -> bool
     ensures from_100_to_699 { result ≡ is_status status }
 {
-    status >= 100 && status <= 699
+    (100..=699).contains(&status)
 }
 
-/// Whether a status is that of a success other than 200.
-fn is_other_success(status: u16) -> bool
-    ensures from_201_to_299 { result ≡ (nat_le 201 status && nat_le status 299) }
+/// Refuses an INVITE whose transaction or dialogue a call has.
+pub fn screen(table: &Table, invite: Invite<&[u8]>) -> Result<(), Ground>
+    ensures transaction_then_dialogue { result_err result ≡ invite_refusal (seek (by_transaction invite.entry.transaction) table.now.places) (seek (holds_dialogue invite.entry.dialogue) table.now.places) }
 {
-    status >= 201 && status <= 299
-}
-
-/// The ground on which an INVITE is refused, if it is.
-pub fn invite_refusal(table: &Table, transaction: u64, dialogue: u64) -> Option<Ground>
-    ensures transaction_then_dialogue { result ≡ invite_refusal (seek (by_transaction transaction) table.now.places) (seek (holds_dialogue dialogue) table.now.places) }
-{
-    if let Some(_) = table.find(Key::Transaction(transaction)) {
-        return Some(Ground::TransactionInUse);
+    if table.find(Key::Transaction(invite.transaction)).is_some() {
+        return Err(Ground::TransactionInUse);
     }
-    match table.find(Key::Dialogue(dialogue)) {
-        Some(_) => Some(Ground::DialogueInUse),
-        None => None,
+    if table.find(Key::Dialogue(invite.dialogue)).is_some() {
+        return Err(Ground::DialogueInUse);
     }
+    Ok(())
 }
 
 /// The other end's CANCEL or BYE, at the call that it found.
-fn left_by(found: Option<Found>) -> Decision
+fn left_by(found: Option<Found>) -> Result<Action, Ground>
     ensures the_call_is_left { outcome_of result ≡ on_leave (found_of found) }
 {
-    match found {
-        None => Decision::Refuse(Ground::NoSuchCall),
-        Some(found) => Decision::Move {
-            place: found.place,
-            effect: leaves(found.call),
-        },
-    }
+    let found = found.ok_or(Ground::NoSuchCall)?;
+    Ok(Action::at(found, leaves(found.call)))
 }
 
+// Two public questions over one answer: a CANCEL names a transaction, a BYE a dialogue.
 /// CANCEL of an INVITE that came.
-pub fn on_cancel(table: &Table, transaction: u64) -> Decision
+pub fn on_cancel(table: &Table, transaction: u64) -> Result<Action, Ground>
     ensures the_unanswered_call_is_left { outcome_of result ≡ on_leave (seek (by_transaction transaction) table.now.places) }
 {
     left_by(table.find(Key::Transaction(transaction)))
 }
 
 /// BYE on a dialogue.
-pub fn on_bye(table: &Table, dialogue: u64) -> Decision
+pub fn on_bye(table: &Table, dialogue: u64) -> Result<Action, Ground>
     ensures the_call_that_holds_it_is_left { outcome_of result ≡ on_leave (seek (holds_dialogue dialogue) table.now.places) }
 {
     left_by(table.find(Key::Dialogue(dialogue)))
@@ -73,78 +63,63 @@ pub fn on_bye(table: &Table, dialogue: u64) -> Decision
 fn is_another(holder: Option<Found>, mine: Option<Found>) -> bool
     ensures held_elsewhere { result ≡ another (found_of holder) (found_of mine) }
 {
-    match holder {
-        None => false,
-        Some(holder) => match mine {
-            None => true,
-            Some(mine) => holder.place != mine.place,
-        },
-    }
+    holder.is_some_and(|holder| mine.is_none_or(|mine| holder.place != mine.place))
 }
 
 /// A 200 at the call of its number; without one it is acknowledged and ended.
-fn accepted(number: u64, dialogue: u64, mine: Option<Found>) -> Decision
-    ensures at_its_call_or_ended { outcome_of result ≡ on_ok number dialogue (found_of mine) }
+fn accepted(response: Response, mine: Option<Found>) -> Action
+    ensures at_its_call_or_ended { outcome_of (Ok result) ≡ on_ok response.number response.dialogue (found_of mine) }
 {
     match mine {
-        None => Decision::Reply {
+        None => Action::Reply {
             exchange: Few::Zero,
-            sip: ack_and_bye(number, dialogue),
+            sip: ack_and_bye(response),
         },
-        Some(mine) => Decision::Move {
-            place: mine.place,
-            effect: accepts(mine.call, number, dialogue),
-        },
+        Some(mine) => Action::at(mine, accepts(mine.call, response)),
     }
 }
 
 /// A 200.
-fn on_ok(table: &Table, number: u64, dialogue: u64) -> Decision
-    ensures a_200 { outcome_of result ≡ responded table.now.places number 200 dialogue true }
+fn on_ok(table: &Table, response: Response) -> Result<Action, Ground>
+    ensures a_200 { outcome_of result ≡ responded table.now.places response.number 200 response.dialogue true }
 {
-    let mine = table.find(Key::LiveNumber(number));
-    if is_another(table.find(Key::Dialogue(dialogue)), mine) {
-        Decision::Refuse(Ground::DialogueInUse)
-    } else {
-        accepted(number, dialogue, mine)
+    let mine = table.find(Key::LiveNumber(response.number));
+    if is_another(table.find(Key::Dialogue(response.dialogue)), mine) {
+        return Err(Ground::DialogueInUse);
     }
+    Ok(accepted(response, mine))
 }
 
 /// A provisional response, or a final one that refuses, at the call that awaits it.
-fn awaited(status: u16, media: bool, found: Option<Found>) -> Decision
-    ensures at_the_call_that_awaits_it { outcome_of result ≡ at_call (on_other status media) (found_of found) }
+fn awaited(response: Response, found: Option<Found>) -> Result<Action, Ground>
+    ensures at_the_call_that_awaits_it { outcome_of result ≡ at_call (on_other response.status response.media) (found_of found) }
 {
-    match found {
-        None => Decision::Refuse(Ground::NoSuchCall),
-        Some(found) => Decision::Move {
-            place: found.place,
-            effect: on_other(status, media, found.call),
-        },
-    }
+    let found = found.ok_or(Ground::NoSuchCall)?;
+    Ok(Action::at(found, on_other(response, found.call)))
 }
 
 /// A response with a status from 100 to 699.
-pub fn on_response(table: &Table, number: u64, status: u16, dialogue: u64, media: bool) -> Decision
-    ensures by_the_status { outcome_of result ≡ responded table.now.places number status dialogue media }
+pub fn on_response(table: &Table, response: Response) -> Result<Action, Ground>
+    ensures by_the_status { outcome_of result ≡ responded table.now.places response.number response.status response.dialogue response.media }
 {
-    if status == OK {
-        on_ok(table, number, dialogue)
-    } else if is_other_success(status) {
-        Decision::Reply {
+    match response.status {
+        OK => on_ok(table, response),
+        201..=299 => Ok(Action::Reply {
             exchange: Few::Zero,
-            sip: Few::One(SipMessage::Ack { number, dialogue }),
-        }
-    } else {
-        awaited(status, media, table.find(Key::AwaitedNumber(number)))
+            sip: Few::One(SipMessage::Ack {
+                number: response.number,
+                dialogue: response.dialogue,
+            }),
+        }),
+        _ => awaited(response, table.find(Key::AwaitedNumber(response.number))),
     }
 }
 
 /// No final response came in time to the CANCEL with this number.
-pub fn on_expiry_of_cancel(table: &Table, number: u64) -> Decision
+pub fn on_expiry_of_cancel(table: &Table, number: u64) -> Result<Action, Ground>
     ensures at_the_call_with_the_number { outcome_of result ≡ at_call on_cancel_expiry (seek (by_number number) table.now.places) }
 {
-    match table.find(Key::Number(number)) {
-        None => Decision::Refuse(Ground::NoSuchCall),
-        Some(found) => at(found.place, on_cancel_expiry(found.call)),
-    }
+    let found = table.find(Key::Number(number)).ok_or(Ground::NoSuchCall)?;
+    let effect = on_cancel_expiry(found.call)?;
+    Ok(Action::at(found, effect))
 }

@@ -10,7 +10,7 @@ use calls::Call;
 use sides::is_over;
 
 /// A call that was looked for, and its place in the table.
-#[derive(Clone, Copy)]
+#[derive(Clone, Copy, PartialEq, Eq, Debug)]
 pub struct Found {
     pub place: usize,
     pub call: Call,
@@ -19,16 +19,8 @@ pub struct Found {
 fn channel_of(slot: Option<Call>) -> Option<u8>
     ensures answers_the_channel_held { result ≡ holding slot }
 {
-    match slot {
-        None => None,
-        Some(call) => {
-            if is_over(call.exchange) {
-                None
-            } else {
-                Some(call.channel)
-            }
-        }
-    }
+    let call = slot?;
+    (!is_over(call.exchange)).then_some(call.channel)
 }
 
 fn is_holding(call: Call, channel: u8) -> bool
@@ -38,6 +30,7 @@ fn is_holding(call: Call, channel: u8) -> bool
 }
 
 /// 64 places, each with at most one call. A call holds its channel only by the token that was entered with it.
+// Stays an array: 64 places are a rule, and a step uses no heap.
 #[derive(Drop)]
 pub struct Table {
     places: [Option<Call>; 64],
@@ -57,44 +50,31 @@ impl Table {
         ensures the_first_that_matches_or_none { found_of result ≡ seek (keyed key) self.now.places }
         ensures stands_at_its_place { Within result self.now.places }
     {
-        for (place, slot) in self.places.iter().enumerate() {
-            if let Some(call) = *slot {
-                if is_keyed(key, call) {
-                    return Some(Found { place, call });
-                }
-            }
-        }
-        None
+        self.places.iter().enumerate().find_map(|(place, slot)| {
+            let call = (*slot)?;
+            is_keyed(key, call).then_some(Found { place, call })
+        })
     }
 
     /// The call at a place; a place from 64 on has none.
     pub fn call_at(&self, at: usize) -> Option<Call>
         ensures answers_the_call_there { result ≡ slice_index_or self.now.places at None }
     {
-        if at < 64 { self.places[at] } else { None }
+        *self.places.get(at)?
     }
 
     /// A free place, if there is one.
     pub fn free(&self) -> Option<usize>
         ensures a_free_place_or_none_is_free { FreePlace self.now.places result }
     {
-        for (place, slot) in self.places.iter().enumerate() {
-            if let None = *slot {
-                return Some(place);
-            }
-        }
-        None
+        self.places.iter().position(Option::is_none)
     }
 
     /// The channel that a place holds; a place from 64 on holds none.
     pub fn holds(&self, place: usize) -> Option<u8>
         ensures answers_the_channel_held { result ≡ held self.now.places place }
     {
-        if place < 64 {
-            channel_of(self.places[place])
-        } else {
-            None
-        }
+        channel_of(self.call_at(place))
     }
 
     /// Enters a call at a free place, with the token of the channel that it holds; else the token is handed back.
@@ -102,20 +82,12 @@ impl Table {
         ensures handed_back_exactly_if_not_admitted { result ≡ answered (admits self.old.places place call token.channel) token }
         ensures entered_at_that_place_alone { self.new.places ≡ after_entering (admits self.old.places place call token.channel) self.old.places place call }
     {
-        if !is_holding(call, token.channel) {
+        if !is_holding(call, token.channel) || place >= 64 || self.places[place].is_some() {
             return Err(token);
         }
-        if place >= 64 {
-            return Err(token);
-        }
-        match self.places[place] {
-            Some(_) => Err(token),
-            None => {
-                let Token { channel: _ } = token;
-                self.places[place] = Some(call);
-                Ok(())
-            }
-        }
+        let Token { channel: _ } = token;
+        self.places[place] = Some(call);
+        Ok(())
     }
 
     /// Changes one record. A token that comes in is entered with the record; the token of a channel that the place no longer
@@ -132,22 +104,17 @@ impl Table {
         ensures changes_that_place_alone { self.new.places ≡ slice_set self.old.places place after }
         ensures gives_out_the_channel_left { result ≡ left (slice_index_or self.old.places place None) after token }
     {
-        let before = channel_of(self.places[place]);
+        let before = self.holds(place);
         self.places[place] = after;
+        // Stays a match: with no `Drop`, a token is spent only by taking it apart.
         let goes_on = match token {
             Some(Token { channel: _ }) => false,
             None => channel_of(after).is_some(),
         };
-        match before {
-            Some(channel) => {
-                if goes_on {
-                    None
-                } else {
-                    Some(Token { channel })
-                }
-            }
-            None => None,
+        if goes_on {
+            return None;
         }
+        before.map(|channel| Token { channel })
     }
 
     /// Removes the call at a place; the token of the channel that it holds comes out.
@@ -155,14 +122,10 @@ impl Table {
         ensures gives_out_the_channel_held { result ≡ token_of (held self.old.places place) }
         ensures frees_that_place_alone { self.new.places ≡ slice_set self.old.places place None }
     {
-        if place >= 64 {
-            return None;
+        let held = self.holds(place);
+        if place < 64 {
+            self.places[place] = None;
         }
-        let before = channel_of(self.places[place]);
-        self.places[place] = None;
-        match before {
-            Some(channel) => Some(Token { channel }),
-            None => None,
-        }
+        held.map(|channel| Token { channel })
     }
 }

@@ -4,6 +4,7 @@ ghost use Rattle.desk.specs.Tokens.{channel_of, granted};
 ghost use Rattle.desk.specs.Wishes.{WishGets, WasIdle};
 
 use crate::token::Token;
+use messages::Channel;
 use pools::Pool;
 
 /// A pool whose seizures are tokens.
@@ -39,11 +40,7 @@ impl<P: Pool> Trunk<P> {
         ensures granted_exactly_if_idle { channel_of result ≡ granted (idle (P.Pool.state self.old.pool c)) c }
         ensures grant_seizes_it_alone { (k : ℕ) → P.Pool.state self.new.pool k ≡ after_any (channel_of result) (P.Pool.state self.old.pool) k }
     {
-        if self.pool.seize(c) {
-            Some(Token { channel: c })
-        } else {
-            None
-        }
+        self.pool.seize(c).then(|| Token { channel: c })
     }
 
     /// A token of an idle channel of the pool's choice, if one is idle.
@@ -51,20 +48,17 @@ impl<P: Pool> Trunk<P> {
         ensures granted_exactly_if_one_is_idle { AnyWasIdle (channel_of result) (P.Pool.state self.old.pool) }
         ensures grant_seizes_it_alone { (k : ℕ) → P.Pool.state self.new.pool k ≡ after_any (channel_of result) (P.Pool.state self.old.pool) k }
     {
-        match self.pool.seize_any() {
-            Some(channel) => Some(Token { channel }),
-            None => None,
-        }
+        self.pool.seize_any().map(|channel| Token { channel })
     }
 
     /// A token of the wished channel if it is idle; else, where it is only preferred, of any idle one.
-    pub fn seize_wished(&mut self, wished: u8, exclusive: bool) -> Option<Token>
-        ensures the_wished_or_any_or_none { WishGets (idle (P.Pool.state self.old.pool wished)) exclusive wished (P.Pool.state self.old.pool) (channel_of result) }
+    pub fn seize_wished(&mut self, wish: Channel) -> Option<Token>
+        ensures the_wished_or_any_or_none { WishGets (idle (P.Pool.state self.old.pool wish.number)) wish.exclusive wish.number (P.Pool.state self.old.pool) (channel_of result) }
         ensures what_is_granted_was_idle { WasIdle (channel_of result) (P.Pool.state self.old.pool) }
         ensures grant_seizes_it_alone { (k : ℕ) → P.Pool.state self.new.pool k ≡ after_any (channel_of result) (P.Pool.state self.old.pool) k }
     {
-        if exclusive || self.is_idle(wished) {
-            self.seize(wished)
+        if wish.exclusive || self.is_idle(wish.number) {
+            self.seize(wish.number)
         } else {
             self.seize_any()
         }

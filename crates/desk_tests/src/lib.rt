@@ -1,4 +1,5 @@
 //! How a token goes from a trunk into a call of the table and back, over any kind of pool; and examples of it, run as tests.
+// Trunk and table stay two parameters: the gateway holds them as two fields.
 #![tactic(auto)]
 
 ghost use Rattle.std.specs.Prelude.{◌≡◌, ℕ, Some, None, slice_set};
@@ -10,7 +11,7 @@ ghost use Rattle.desk_tests.specs.Stays.{call_on, Occupies, after_occupying, aft
 
 use calls::{Call, Digits, ExchangeSide, SipSide};
 use desk::{Key, Table, Token, Trunk};
-use messages::CallReference;
+use messages::{CallReference, Channel};
 use pools::Pool;
 
 #[cfg(test)]
@@ -48,17 +49,17 @@ pub fn occupy<P: Pool>(
     ensures enters_it_there_alone { table.new.places ≡ after_occupying result table.old.places place }
     ensures seizes_it_alone { (k : ℕ) → P.Pool.state trunk.new.pool k ≡ after_any result (P.Pool.state trunk.old.pool) k }
 {
-    match trunk.seize_wished(wished, exclusive) {
-        None => None,
-        Some(token) => {
-            let channel = token.channel();
-            match table.enter(place, call_on(channel), token) {
-                Ok(()) => Some(channel),
-                Err(token) => {
-                    let _ = trunk.release(token);
-                    None
-                }
-            }
+    let wish = Channel {
+        number: wished,
+        exclusive,
+    };
+    let token = trunk.seize_wished(wish)?;
+    let channel = token.channel();
+    match table.enter(place, call_on(channel), token) {
+        Ok(()) => Some(channel),
+        Err(token) => {
+            let _ = trunk.release(token);
+            None
         }
     }
 }
@@ -79,10 +80,8 @@ pub fn vacate<P: Pool>(trunk: &mut Trunk<P>, table: &mut Table, place: usize) ->
     ensures frees_that_place_alone { table.new.places ≡ slice_set table.old.places place None }
     ensures releases_it_alone { (k : ℕ) → P.Pool.state trunk.new.pool k ≡ after_vacating result (P.Pool.state trunk.old.pool) k }
 {
-    match table.remove(place) {
-        None => None,
-        Some(token) => Some(released(trunk, token)),
-    }
+    let token = table.remove(place)?;
+    Some(released(trunk, token))
 }
 
 /// Ends the exchange side of the call that a key finds, which stays in the table, and releases the channel that it held.
@@ -91,17 +90,11 @@ pub fn end_exchange_side<P: Pool>(trunk: &mut Trunk<P>, table: &mut Table, key: 
     ensures changes_that_call_alone { table.new.places ≡ after_ending (seek (keyed key) table.old.places) table.old.places }
     ensures releases_it_alone { (k : ℕ) → P.Pool.state trunk.new.pool k ≡ after_vacating result (P.Pool.state trunk.old.pool) k }
 {
-    match table.find(key) {
-        None => None,
-        Some(found) => {
-            let ended = Call {
-                exchange: ExchangeSide::Over,
-                ..found.call
-            };
-            match table.change(found.place, Some(ended), None) {
-                None => None,
-                Some(token) => Some(released(trunk, token)),
-            }
-        }
-    }
+    let found = table.find(key)?;
+    let ended = Call {
+        exchange: ExchangeSide::Over,
+        ..found.call
+    };
+    let token = table.change(found.place, Some(ended), None)?;
+    Some(released(trunk, token))
 }

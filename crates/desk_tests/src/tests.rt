@@ -113,26 +113,21 @@ fn places_that_are_not_free(rt: HostRuntime) {
 
 /// Enters the call on a channel of the trunk's choice.
 fn enter(trunk: &mut Trunk<LinkPool>, table: &mut Table, place: usize, call: Call) -> bool {
-    match trunk.seize_any() {
-        None => false,
-        Some(token) => {
-            let channel = token.channel();
-            match table.enter(place, Call { channel, ..call }, token) {
-                Ok(()) => true,
-                Err(token) => {
-                    let _ = trunk.release(token);
-                    false
-                }
-            }
+    let Some(token) = trunk.seize_any() else {
+        return false;
+    };
+    let channel = token.channel();
+    match table.enter(place, Call { channel, ..call }, token) {
+        Ok(()) => true,
+        Err(token) => {
+            let _ = trunk.release(token);
+            false
         }
     }
 }
 
 fn place_of(table: &Table, key: Key) -> Option<usize> {
-    match table.find(key) {
-        None => None,
-        Some(found) => Some(found.place),
-    }
+    table.find(key).map(|found| found.place)
 }
 
 /// A call from the exchange with that number, as its reference too.
@@ -163,14 +158,8 @@ fn reference(flag: bool, number: u16) -> Key {
     Key::Reference(CallReference { flag, number })
 }
 
-const NOTHING_TOLD: Told = Told {
-    alerting: false,
-    interworking: false,
-    inband: false,
-};
-
 #[test]
-fn a_record_that_does_not_hold_the_channel(rt: HostRuntime) -> Result<(), Fail> {
+fn a_record_that_does_not_hold_the_channel(rt: HostRuntime) {
     let mut trunk = Trunk::new(LinkPool::new());
     let mut table = Table::new();
     let over = from_exchange(1, ExchangeSide::Over, SipSide::CancelSent);
@@ -180,22 +169,11 @@ fn a_record_that_does_not_hold_the_channel(rt: HostRuntime) -> Result<(), Fail> 
     );
     assert!(rt; trunk.is_idle(31), "released again");
     assert_eq!(rt; table.free(), Some(0), "nothing entered");
-    match trunk.seize(4) {
-        None => {
-            assert!(rt; false);
-            Ok(())
-        },
-        Some(token) => match table.enter(0, call_on(5), token) {
-            Ok(()) => {
-                assert!(rt; false, "on another channel");
-                Ok(())
-            },
-            Err(token) => {
-                assert!(rt; trunk.release(token));
-                Ok(())
-            },
-        },
-    }
+    let token = trunk.seize(4).expect(&rt, "channel 4 is idle");
+    let token = table
+        .enter(0, call_on(5), token)
+        .expect_err(&rt, "on another channel");
+    assert!(rt; trunk.release(token));
 }
 
 /// Keys, and the places of the calls that they find in the table of the test.
@@ -257,7 +235,9 @@ fn every_way_of_finding(rt: HostRuntime) {
             location: 4,
         },
     };
-    let invited = SipSide::InviteSent { told: NOTHING_TOLD };
+    let invited = SipSide::InviteSent {
+        told: Told::default(),
+    };
     let unanswered = SipSide::InviteUnanswered {
         transaction: 40,
         dialogue: 50,
@@ -272,14 +252,14 @@ fn every_way_of_finding(rt: HostRuntime) {
             to_exchange(8, ExchangeSide::Up, SipSide::Up { dialogue: 51 }),
         ),
     ];
-    for entry in &FINDINGS {
-        assert_eq!(rt; place_of(&table, entry.1), None, "{}", entry.0);
+    for &(what, key, _) in &FINDINGS {
+        assert_eq!(rt; place_of(&table, key), None, "{what}");
     }
-    for entry in &entries {
-        assert!(rt; enter(&mut trunk, &mut table, entry.0, entry.1));
+    for &(place, call) in &entries {
+        assert!(rt; enter(&mut trunk, &mut table, place, call));
     }
-    for entry in &FINDINGS {
-        assert_eq!(rt; place_of(&table, entry.1), entry.2, "{}", entry.0);
+    for &(what, key, place) in &FINDINGS {
+        assert_eq!(rt; place_of(&table, key), place, "{what}");
     }
 }
 

@@ -1,10 +1,13 @@
 -- What the digits of a message come to.
-use Rattle.std.specs.Prelude.{Bool, cond, ◌&&◌, ◌||◌, [], ℕ, ◌==◌, nat_le}
+use Rattle.std.specs.Prelude.{◌≡◌, Bool, true, false, Some, None, Option, cond, ◌&&◌, ◌||◌, [], ℕ, ◌==◌, nat_le}
 use Rattle.messages.specs.declared.record.Message.{Message}
+use Rattle.messages.specs.declared.record.Part.{Part}
 use Rattle.messages.specs.Elements.{Digits as Heard}
+use Rattle.reader.specs.Seen.{seen_record}
 use Rattle.calls.specs.declared.record.Call.{Call}
 use Rattle.calls.specs.declared.record.Digits.{Digits}
 use Rattle.calls.specs.declared.sides.ExchangeSide.{ExchangeSide}
+use Rattle.exchange_rules.specs.declared.setup.DialledSetup.{DialledSetup}
 use Rattle.calls.specs.Effects.{Effect, spurns, proceeds, redialled, enters, keeps, heard_digits, is_too_many, is_empty_whole}
 
 -- more digits are awaited
@@ -19,3 +22,8 @@ gathered full complete k ds =
 -- the digits of a SETUP cannot be a number
 abbrev pub misdialled : Message Heard → Bool
 misdialled m = is_too_many (heard_digits m) || is_empty_whole m (heard_digits m)
+
+-- the SETUP as it came, or nothing where its digits cannot be a number
+abbrev pub Dials : Message Part → Option DialledSetup → Type 0
+Dials m None = misdialled (seen_record m) ≡ true
+Dials m (Some s) = (misdialled (seen_record m) ≡ false) × (s.message ≡ m)

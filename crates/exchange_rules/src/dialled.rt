@@ -1,4 +1,5 @@
-//! The digits of a call that a SETUP made.
+//! The digits of a call that a SETUP made. The call and its new digits stay two parameters, as the rules name them apart: a step
+//! moves the call as it stood.
 ghost use Rattle.std.specs.Prelude.{◌≡◌, []};
 ghost use Rattle.calls.specs.Effects.{proceeds as proceeding, spurns as spurning, collects as collecting, joined as joining, heard_digits};
 ghost use Rattle.reader.specs.Seen.{seen_record};
@@ -67,10 +68,7 @@ fn gathers(full: usize, complete: bool, call: Call, digits: Digits) -> Effect
 pub fn heard_digits<'a>(message: Message<Part<'a>>) -> &'a [u8]
     ensures digits_of_the_message { result.now ≡ heard_digits (seen_record message.entry) }
 {
-    match message.elements.digits {
-        Some(part) => part.octets,
-        None => &[],
-    }
+    message.elements.digits.map_or(&[], |part| part.octets)
 }
 
 /// INFORMATION: its digits join those of the call.

@@ -56,11 +56,9 @@ fn on_timer(call: Call, timer: Timer) -> Effect
     match timer {
         Timer::T301 => gives_up(call, TEMPORARILY_UNAVAILABLE),
         Timer::T302 => dials(call),
-        Timer::T303 => gives_up(call, REQUEST_TIMEOUT),
+        Timer::T303 | Timer::T310 | Timer::T313 => gives_up(call, REQUEST_TIMEOUT),
         Timer::T305 => moved(call, releases(call, false), keeps(call)),
         Timer::T308 => repeats(call),
-        Timer::T310 => gives_up(call, REQUEST_TIMEOUT),
-        Timer::T313 => gives_up(call, REQUEST_TIMEOUT),
     }
 }
 
@@ -68,9 +66,7 @@ fn on_timer(call: Call, timer: Timer) -> Effect
 pub fn on_expiry(timer: Timer, call: Call) -> Result<Effect, Ground>
     ensures of_the_running_timer { ruling_of result ≡ on_expiry timer call }
 {
-    if is_running(timer, call.exchange) {
-        Ok(on_timer(call, timer))
-    } else {
-        Err(Ground::TimerNotRunning)
-    }
+    is_running(timer, call.exchange)
+        .then(|| on_timer(call, timer))
+        .ok_or(Ground::TimerNotRunning)
 }

@@ -9,4 +9,4 @@ mod setup;
 
 pub use expiry::on_expiry;
 pub use message::{asks_for_another, on_message, tries_again};
-pub use setup::{begins, is_misdialled};
+pub use setup::{DialledSetup, begins};

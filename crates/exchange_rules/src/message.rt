@@ -6,10 +6,7 @@ ghost use Rattle.reader.specs.Seen.{seen_record};
 ghost use Rattle.moves.specs.Moves.{effect_of, ruling_of};
 
 use crate::dialled::collects;
-use crate::moment::{
-    is_collecting, is_connect_sent, is_proceeding_outwards, is_setup_sent, is_unalerted,
-    is_unconnected, only,
-};
+use crate::moment::{is_unalerted, is_unconnected, only};
 use calls::{Call, ExchangeSide};
 use messages::{Cause, Message, MessageType, Part};
 use moves::{
@@ -117,7 +114,7 @@ pub fn tries_again(pick: Option<u8>, call: Call) -> Effect
 pub fn asks_for_another(side: ExchangeSide, cause: Option<Cause>) -> bool
     ensures setup_refused_for_its_channel { result ≡ (is_in ExchangeSide.SetupSent side && is_unavailable cause) }
 {
-    is_setup_sent(side) && is_unavailable(cause)
+    side == ExchangeSide::SetupSent && is_unavailable(cause)
 }
 
 /// RELEASE COMPLETE: the exchange side is over, unless another channel is tried.
@@ -140,33 +137,28 @@ pub fn on_message(
 ) -> Result<Effect, Ground>
     ensures by_type_and_state { ruling_of result ≡ on_type full pick (seen_record message.entry) call message.entry.kind }
 {
+    let side = call.exchange;
     let cause = message.elements.cause;
     match message.kind {
-        MessageType::Alerting => only(is_unalerted(call.exchange), alerted(call)),
+        MessageType::Alerting => only(is_unalerted(side), alerted(call)),
         MessageType::CallProceeding => {
             let next = ExchangeSide::ProceedingOutwards;
-            only(is_setup_sent(call.exchange), advanced(call, next))
+            only(side == ExchangeSide::SetupSent, advanced(call, next))
         }
-        MessageType::Progress => only(is_proceeding_outwards(call.exchange), progressed(call)),
+        MessageType::Progress => only(side == ExchangeSide::ProceedingOutwards, progressed(call)),
         MessageType::Setup => Err(Ground::ReferenceInUse),
-        MessageType::Connect => only(is_unconnected(call.exchange), connected(call)),
+        MessageType::Connect => only(is_unconnected(side), connected(call)),
         MessageType::SetupAcknowledge => Err(Ground::NotNow),
         MessageType::ConnectAcknowledge => {
-            only(
-                is_connect_sent(call.exchange),
-                advanced(call, ExchangeSide::Up),
-            )
+            let next = ExchangeSide::Up;
+            only(side == ExchangeSide::ConnectSent, advanced(call, next))
         }
-        MessageType::Disconnect => {
-            only(
-                is_unreleased(call.exchange),
-                disconnected(call, code(cause)),
-            )
-        }
+        MessageType::Disconnect => only(is_unreleased(side), disconnected(call, code(cause))),
         MessageType::Release => Ok(released(call, code(cause))),
         MessageType::ReleaseComplete => Ok(completed(pick, cause, call)),
         MessageType::Information => {
-            only(is_collecting(call.exchange), collects(full, message, call))
+            let effect = collects(full, message, call);
+            only(side == ExchangeSide::Collecting, effect)
         }
     }
 }

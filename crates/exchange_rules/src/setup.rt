@@ -1,109 +1,105 @@
 //! The call that a SETUP makes.
-ghost use Rattle.std.specs.Prelude.{◌≡◌, ◌≤◌, length};
+ghost use Rattle.std.specs.Prelude.{◌≡◌};
 ghost use Rattle.calls.specs.Effects.{heard_digits, setup_call, is_whole, begins_proceeding, begins_collecting, begins as beginning};
 ghost use Rattle.reader.specs.Seen.{seen_record};
 ghost use Rattle.moves.specs.Moves.{effect_of};
-ghost use Rattle.exchange_rules.specs.Gathering.{misdialled};
 
 use crate::dialled::heard_digits;
 use calls::{Call, ExchangeSide, SipMessage, SipSide, Told};
-use dialling::recorded;
+use dialling::{Dialled, recorded};
 use messages::{Message, MessageType, Part};
 use moves::{Effect, answers_setup, made};
 use queues::few::Few;
 
-/// As many digits as a call can have.
-const MOST_DIGITS: usize = 20;
+/// A SETUP with at most 20 digits.
+#[derive(Clone, Copy)]
+pub struct DialledSetup<'a> {
+    pub message: Message<Part<'a>>,
+    pub digits: Dialled<'a>,
+    ghost heard: { digits.octets.now ≡ heard_digits (seen_record message) },
+}
 
-fn setup_call(
-    message: Message<Part<'_>>,
-    number: u64,
-    channel: u8,
-    exchange: ExchangeSide,
-    sip: SipSide,
-) -> Call
-    requires few { length (heard_digits (seen_record message)) ≤ 20 }
-    ensures with_the_digits_of_the_setup { result ≡ setup_call (seen_record message.entry) number channel exchange sip }
-{
-    Call {
-        reference: message.reference,
-        channel,
-        number: Some(number),
-        digits: recorded(heard_digits(message)),
-        exchange,
-        sip,
+impl<'a> DialledSetup<'a> {
+    ghost use Rattle.exchange_rules.specs.Gathering.{Dials};
+
+    /// This SETUP, unless it has too many digits; a whole number without digits is turned away too.
+    pub fn new(message: Message<Part<'a>>) -> Option<DialledSetup<'a>>
+        ensures as_it_came_unless_misdialled { Dials message.entry result }
+    {
+        let digits = Dialled::new(heard_digits(message))?;
+        if message.elements.complete && digits.octets.is_empty() {
+            return None;
+        }
+        Some(DialledSetup { message, digits })
+    }
+
+    /// Whether the number is whole: the sender says so, or there are as many digits as a full number has.
+    fn is_whole(self, full: usize) -> bool
+        ensures said_or_counted { result ≡ is_whole full (seen_record self.entry.message) (heard_digits (seen_record self.entry.message)) }
+    {
+        self.message.elements.complete || full <= self.digits.octets.len()
     }
 }
 
-/// The number is whole: CALL PROCEEDING to the exchange, INVITE to SIP.
-fn begins_proceeding(message: Message<Part<'_>>, number: u64, channel: u8) -> Effect
-    requires few { length (heard_digits (seen_record message)) ≤ 20 }
-    ensures proceeding_and_invite { effect_of result ≡ begins_proceeding (seen_record message.entry) number channel }
-{
-    let told = Told {
-        alerting: false,
-        interworking: false,
-        inband: false,
-    };
-    let call = setup_call(
-        message,
-        number,
-        channel,
-        ExchangeSide::Proceeding,
-        SipSide::InviteSent { told },
-    );
-    let answer = answers_setup(MessageType::CallProceeding, message.reference, channel);
-    made(
-        call,
-        answer,
-        Few::One(SipMessage::Invite {
-            number,
+/// The call that a SETUP makes: with the next number, on a channel that was seized for it.
+#[derive(Clone, Copy)]
+struct NewCall<'a> {
+    setup: DialledSetup<'a>,
+    number: u64,
+    channel: u8,
+}
+
+impl NewCall<'_> {
+    /// The call where its sides stand so.
+    fn standing(self, exchange: ExchangeSide, sip: SipSide) -> Call
+        ensures with_the_digits_of_the_setup { result ≡ setup_call (seen_record self.entry.setup.message) self.entry.number self.entry.channel exchange sip }
+    {
+        Call {
+            reference: self.setup.message.reference,
+            channel: self.channel,
+            number: Some(self.number),
+            digits: recorded(self.setup.digits),
+            exchange,
+            sip,
+        }
+    }
+
+    /// The number is whole: CALL PROCEEDING to the exchange, INVITE to SIP.
+    fn proceeds(self) -> Effect
+        ensures proceeding_and_invite { effect_of result ≡ begins_proceeding (seen_record self.entry.setup.message) self.entry.number self.entry.channel }
+    {
+        let told = Told::default();
+        let call = self.standing(ExchangeSide::Proceeding, SipSide::InviteSent { told });
+        let answer = answers_setup(MessageType::CallProceeding, call.reference, call.channel);
+        let invite = SipMessage::Invite {
+            number: self.number,
             digits: call.digits,
-        }),
-        true,
-    )
+        };
+        made(call, answer, Few::One(invite), true)
+    }
+
+    /// More digits are awaited: SETUP ACKNOWLEDGE to the exchange.
+    fn collects(self) -> Effect
+        ensures acknowledged { effect_of result ≡ begins_collecting (seen_record self.entry.setup.message) self.entry.number self.entry.channel }
+    {
+        let call = self.standing(ExchangeSide::Collecting, SipSide::None);
+        let answer = answers_setup(MessageType::SetupAcknowledge, call.reference, call.channel);
+        made(call, answer, Few::Zero, true)
+    }
 }
 
-/// More digits are awaited: SETUP ACKNOWLEDGE to the exchange.
-fn begins_collecting(message: Message<Part<'_>>, number: u64, channel: u8) -> Effect
-    requires few { length (heard_digits (seen_record message)) ≤ 20 }
-    ensures acknowledged { effect_of result ≡ begins_collecting (seen_record message.entry) number channel }
+/// A new call from the exchange, with the next number, on a channel that was seized for it.
+pub fn begins(full: usize, setup: DialledSetup<'_>, number: u64, channel: u8) -> Effect
+    ensures proceeding_or_collecting { effect_of result ≡ beginning full (seen_record setup.entry.message) number channel }
 {
-    let call = setup_call(
-        message,
+    let call = NewCall {
+        setup,
         number,
         channel,
-        ExchangeSide::Collecting,
-        SipSide::None,
-    );
-    let answer = answers_setup(MessageType::SetupAcknowledge, message.reference, channel);
-    made(call, answer, Few::Zero, true)
-}
-
-/// Whether the number is whole: the sender says so, or there are as many digits as a full number has.
-fn is_whole(full: usize, message: Message<Part<'_>>) -> bool
-    ensures said_or_counted { result ≡ is_whole full (seen_record message.entry) (heard_digits (seen_record message.entry)) }
-{
-    message.elements.complete || full <= heard_digits(message).len()
-}
-
-/// Whether the digits of a SETUP cannot be a number: too many, or none though the sender says that the number is whole.
-pub fn is_misdialled(message: Message<Part<'_>>) -> bool
-    ensures too_many_or_none { result ≡ misdialled (seen_record message.entry) }
-{
-    let count = heard_digits(message).len();
-    count > MOST_DIGITS || message.elements.complete && count == 0
-}
-
-/// A new call from the exchange, with the next number, on a channel that was seized for it. Who calls this has tested that
-/// the SETUP has at most 20 digits.
-pub fn begins(full: usize, message: Message<Part<'_>>, number: u64, channel: u8) -> Effect
-    requires few { length (heard_digits (seen_record message)) ≤ 20 }
-    ensures proceeding_or_collecting { effect_of result ≡ beginning full (seen_record message.entry) number channel }
-{
-    if is_whole(full, message) {
-        begins_proceeding(message, number, channel)
+    };
+    if setup.is_whole(full) {
+        call.proceeds()
     } else {
-        begins_collecting(message, number, channel)
+        call.collects()
     }
 }

@@ -12,7 +12,7 @@ abbrev pub expected_status : List CauseEntry → ℕ → ℕ → Option ℕ
 expected_status entries cause location = first_fit (λ e. cause_fits e cause location) (λ e. e.status) entries
 
 abbrev pub expected_cause : List StatusEntry → ℕ → Option (ℕ × ℕ)
-expected_cause entries status = first_fit (λ e. status_fits e status) (λ e. (e.cause, e.location)) entries
+expected_cause entries status = first_fit (λ e. status_fits e status) (λ e. (e.cause.value, e.cause.location)) entries
 
 -- a number that the list does not know agrees with no answer
 abbrev pub same_status : Option ℕ → ℕ → Bool

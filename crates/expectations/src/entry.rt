@@ -2,6 +2,10 @@
 ghost use Rattle.std.specs.Prelude.{◌≡◌};
 ghost use Rattle.expectations.specs.Fits.{cause_fits, status_fits};
 
+use messages::Cause;
+
+// Two ends and no `RangeInclusive`: the definitions of what fits and the program's report name the ends.
+
 // Causes `first` to `last`, at one location or at any, give `status`.
 #[derive(Clone, Copy)]
 pub struct CauseEntry {
@@ -11,24 +15,20 @@ pub struct CauseEntry {
     pub status: u16,
 }
 
-// Statuses `first` to `last` give `cause` at `location`.
+// Statuses `first` to `last` give `cause`.
 #[derive(Clone, Copy)]
 pub struct StatusEntry {
     pub first: u16,
     pub last: u16,
-    pub cause: u8,
-    pub location: u8,
+    pub cause: Cause,
 }
 
 impl CauseEntry {
-    pub(crate) fn fits(&self, cause: u8, location: u8) -> bool
-        ensures inside { result ≡ cause_fits self.now cause location }
+    pub(crate) fn fits(&self, cause: Cause) -> bool
+        ensures inside { result ≡ cause_fits self.now cause.value cause.location }
     {
-        let place = match self.location {
-            Some(at) => at == location,
-            None => true,
-        };
-        self.first <= cause && cause <= self.last && place
+        (self.first..=self.last).contains(&cause.value)
+            && self.location.is_none_or(|at| at == cause.location)
     }
 }
 
@@ -36,6 +36,6 @@ impl StatusEntry {
     pub(crate) fn fits(&self, status: u16) -> bool
         ensures inside { result ≡ status_fits self.now status }
     {
-        self.first <= status && status <= self.last
+        (self.first..=self.last).contains(&status)
     }
 }

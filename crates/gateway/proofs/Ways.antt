@@ -1,11 +1,15 @@
 -- How a step of the gateway's code comes to what the rules say.
-use Rattle.std.proofs.Common.{◌≡◌, ℕ, true, false, List, ◌++◌, length, Some, None, Err, Option, sym, refl, ap, ◌∙◌, subst, MatchOption}
+use Rattle.std.proofs.Common.{◌≡◌, ℕ, true, false, List, ◌++◌, length, Some, None, Err, Option, Result, sym, refl, ap, ◌∙◌, subst, MatchOption}
+use Rattle.std.specs.Result.{IsErrAnd}
+use Rattle.std.proofs.lemmas.Result.{err_from_is_err_and}
 use Rattle.std.proofs.lemmas.Bool.{cond-true, cond-false}
 use Rattle.refusals.specs.declared.Ground.{Ground}
 use Rattle.messages.specs.declared.record.Message.{Message}
 use Rattle.pools.specs.States.{States}
 use Rattle.calls.specs.declared.answers.Answer.{Answer}
 use Rattle.calls.specs.declared.answers.Refused.{Refused}
+use Rattle.calls.specs.declared.answers.Report.{Report}
+use Rattle.calls.specs.Refusing.{placeless}
 use Rattle.calls.specs.declared.record.Call.{Call}
 use Rattle.calls.specs.declared.outgoing.SipMessage.{SipMessage}
 use Rattle.calls.specs.declared.record.Digits.{Digits}
@@ -21,6 +25,10 @@ use Rattle.calls.specs.Words.{is_over}
 use Rattle.gateway.specs.Stands.{Possible}
 use Rattle.gateway.proofs.Channels.{Unseizing, possible}
 
+-- a refusal that is passed on is the answer
+pub passed_on : (r : Result Report Refused) (x : Refused) → IsErrAnd r (λ e. e ≡ x) → Answer.Step r ≡ Answer.Step (Err x)
+passed_on r x h = let w = err_from_is_err_and r h in ap Answer.Step w.1 ∙ ap (λ (y : Refused). Answer.Step (Err y)) w.2
+
 module _ (st : State) where
   -- what was decided for an event is what the rules make of it, with room
   pub possible_step : length st.table ≡ 64 → is_sound st.table ≡ true → Bounded st.pool → (ev : Event) (o o' : Outcome) → o' ≡ o → ((ch : Choice) → outcome st ch ev ≡ roomed st o) → Unseizing o → is_roomy st ≡ true → Possible st.table o'
@@ -30,9 +38,8 @@ module _ (st : State) where
       subst (Possible st.table) (sym p) (possible st len ev o l u)
 
   -- without room, whatever the rule
-  pub full_refused : (rule : Choice → Outcome) → Bounded st.pool → false ≡ is_roomy st → {x : Refused} → x ≡ record { ground = Ground.QueueFull; place = None } → Did st (λ ch. roomed st (rule ch)) (Answer.Step (Err x)) st
-  full_refused rule b e q =
-      plainly st (λ ch. roomed st (rule ch)) b (refuse Ground.QueueFull) (λ ch. cond-false (is_roomy st) (rule ch) (refuse Ground.QueueFull) (sym e)) (ap (λ (y : Refused). Answer.Step (Err y)) q) refl
+  pub full_refused : (rule : Choice → Outcome) → Bounded st.pool → is_roomy st ≡ false → {a : Answer} → a ≡ Answer.Step (Err (placeless Ground.QueueFull)) → Did st (λ ch. roomed st (rule ch)) a st
+  full_refused rule b e q = plainly st (λ ch. roomed st (rule ch)) b (refuse Ground.QueueFull) (λ ch. cond-false (is_roomy st) (rule ch) (refuse Ground.QueueFull) e) q refl
 
   -- an answer that touches no call, as the code gives it
   pub replied : (ms : List (Message Digits)) (ss : List SipMessage) (p : States) (es : List (Message Digits)) (xs : List SipMessage) (m n : ℕ) → ((k : ℕ) → p k ≡ st.pool k) → es ≡ st.exchange ++ ms → xs ≡ st.sip ++ ss → m ≡ st.exchange_places → n ≡ st.sip_places → record { table = st.table; pool = p; exchange = es; sip = xs; exchange_places = m; sip_places = n; next = st.next; full = st.full } ≡ applied st (Reply ms ss)

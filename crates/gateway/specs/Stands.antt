@@ -1,5 +1,5 @@
 -- What a gateway and its two queues stand for among the states of the rules.
-use Rattle.std.specs.Prelude.{◌≡◌, ℕ, ◌<◌, ◌≤◌, true, List, [], Some, None, Option, slice_index_or}
+use Rattle.std.specs.Prelude.{◌≡◌, ℕ, ◌-◌, ◌<◌, ◌≤◌, Bool, true, ◌&&◌, List, [], length, Some, None, Option, nat_le, slice_index_or}
 use Rattle.refusals.specs.declared.Ground.{Ground}
 use Rattle.messages.specs.declared.record.Channel.{Channel}
 use Rattle.messages.specs.declared.record.Message.{Message}
@@ -19,24 +19,25 @@ use Rattle.desk.specs.Tokens.{channel_of}
 use Rattle.desk.specs.Records.{Enters, left}
 use Rattle.desk.specs.Wishes.{WishGets}
 use Rattle.gateway.specs.declared.gateway.Gateway.{Gateway}
+use Rattle.gateway.specs.declared.outgoing.Outgoing.{Outgoing}
 
 -- its calls, the meaning of its pool, what waits in the queues and how much can wait, the next number and the full length
-abbrev pub state_of : {P : Type 0} {G : Ghosts P} → (P → States) → Gateway P G → Queue (Message Digits) → Queue SipMessage → State
-state_of state g exchange sip =
-    record { table = g.table.places; pool = state g.trunk.pool; exchange = waiting exchange; sip = waiting sip; exchange_places = room exchange; sip_places = room sip; next = g.next; full = g.full }
+abbrev pub state_of : {P : Type 0} {G : Ghosts P} → (P → States) → Gateway P G → Outgoing → State
+state_of state g queues =
+    record { table = g.table.places; pool = state g.trunk.pool; exchange = waiting queues.exchange; sip = waiting queues.sip; exchange_places = room queues.exchange; sip_places = room queues.sip; next = g.next; full = g.full }
+
+-- two messages find a place in either queue
+abbrev pub has_two_places : Outgoing → Bool
+has_two_places queues = nat_le 2 (room queues.exchange - length (waiting queues.exchange)) && nat_le 2 (room queues.sip - length (waiting queues.sip))
 
 -- the settings that make a gateway: a full number has 1 to 20 digits, and the first number is not 0
 abbrev pub InRange : ℕ → ℕ → Type 0
 InRange full first = (1 ≤ full) × (full ≤ 20) × (1 ≤ first)
 
--- a refusal that has no place in the octets
-abbrev pub placeless : (ground : Ground) → Refused
-placeless ground = record { ground = ground; place = None }
-
 -- with empty queues, whatever their places, the gateway is at its opening, and its history is empty
 pub record Begins {P : Type 0} {G : Ghosts P} (state : P → States) (g : Gateway P G) : Type 0 where
-  pub opening : (exchange : Queue (Message Digits)) (sip : Queue SipMessage) → waiting exchange ≡ [] → waiting sip ≡ [] → Opening (state_of state g exchange sip)
-  pub history : (exchange : Queue (Message Digits)) (sip : Queue SipMessage) → Run (state_of state g exchange sip) [] (state_of state g exchange sip)
+  pub opening : (queues : Outgoing) → waiting queues.exchange ≡ [] → waiting queues.sip ≡ [] → Opening (state_of state g queues)
+  pub history : (queues : Outgoing) → Run (state_of state g queues) [] (state_of state g queues)
 
 -- an effect can be applied at a place: the token is of the channel that the call holds then, what comes out is what is released
 pub record Ready (places : List (Option Call)) (place : ℕ) (after : Option Call) (released : Option ℕ) (token : Option Token) : Type 0 where

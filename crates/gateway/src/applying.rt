@@ -6,23 +6,19 @@ ghost use Rattle.moves.specs.Moves.{effect_of};
 ghost use Rattle.gateway.specs.Stands.{state_of, Ready};
 
 use crate::gateway::Gateway;
-use calls::{Digits, Report, SipMessage};
+use crate::outgoing::Outgoing;
+use calls::Report;
 use desk::{Token, Trunk};
-use messages::Message;
 use moves::Effect;
 use pools::Pool;
-use queues::queue::Queue;
 use sip_rules::following;
 
 /// The channel that a place no longer holds is released.
 fn give_back<P: Pool>(trunk: &mut Trunk<P>, left: Option<Token>)
     ensures released_if_there_is_one { (k : ℕ) → P.Pool.state trunk.new.pool k ≡ freed (channel_of left) (P.Pool.state trunk.old.pool) k }
 {
-    match left {
-        Some(token) => {
-            let _ = trunk.release(token);
-        }
-        None => {}
+    if let Some(token) = left {
+        let _ = trunk.release(token);
     }
 }
 
@@ -30,27 +26,21 @@ impl<P: Pool> Gateway<P> {
     /// What a step does, its channel seized already.
     pub(crate) fn apply(
         &mut self,
-        exchange: &mut Queue<'_, Message<Digits>>,
-        sip: &mut Queue<'_, SipMessage>,
+        queues: &mut Outgoing<'_>,
         place: usize,
         effect: Effect,
         token: Option<Token>,
     ) -> Report
-        requires ready { Ready self.old.table.places place effect.after effect.released token }
-        requires roomy { is_roomy (state_of P.Pool.state self.old exchange.old sip.old) ≡ true }
+        requires ready { Ready self.old.table.places place effect.after effect.report.released token }
+        requires roomy { is_roomy (state_of P.Pool.state self.old queues.old) ≡ true }
         ensures report_of_the_effect { result ≡ reported (effect_of effect) }
-        ensures effect_settled { state_of P.Pool.state self.new exchange.new sip.new ≡ settled (state_of P.Pool.state self.old exchange.old sip.old) place (effect_of effect) }
+        ensures effect_settled { state_of P.Pool.state self.new queues.new ≡ settled (state_of P.Pool.state self.old queues.old) place (effect_of effect) }
     {
-        exchange.add_few(effect.exchange);
-        sip.add_few(effect.sip);
+        queues.exchange.add_few(effect.exchange);
+        queues.sip.add_few(effect.sip);
         self.next = following(effect.numbered, self.next);
         let left = self.table.change(place, effect.after, token);
         give_back(&mut self.trunk, left);
-        Report {
-            seized: effect.seized,
-            released: effect.released,
-            timer: effect.timer,
-            cancelling: effect.cancelling,
-        }
+        effect.report
     }
 }

@@ -10,3 +10,4 @@ mod seizing;
 mod steps;
 
 pub use gateway::Gateway;
+pub use outgoing::Outgoing;

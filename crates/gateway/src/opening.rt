@@ -9,27 +9,7 @@ use desk::{Table, Trunk};
 use pools::Pool;
 use refusals::Ground;
 
-/// Whether the settings make a gateway.
-fn are_in_range(full: usize, first: u64) -> bool
-    ensures exactly_in_range { elim result [ true ↦ InRange full first | false ↦ (InRange full first → ⊥) ] }
-{
-    full >= 1 && full <= 20 && first >= 1
-}
-
 impl<P: Pool> Gateway<P> {
-    fn without_calls(full: usize, first: u64, pool: P) -> Gateway<P>
-        ensures opens_without_calls { result.table.places ≡ replicate 64 None }
-        ensures over_that_pool { result.trunk.pool ≡ pool }
-        ensures with_the_settings { (result.next ≡ Some first) × (result.full ≡ full) }
-    {
-        Gateway {
-            full,
-            next: Some(first),
-            table: Table::new(),
-            trunk: Trunk::new(pool),
-        }
-    }
-
     /// A gateway without calls over a pool, or ground 11.
     pub fn open(full: usize, first: u64, pool: P) -> Result<Gateway<P>, Ground>
     where
@@ -40,11 +20,15 @@ impl<P: Pool> Gateway<P> {
         ensures with_the_settings { IfOk result (λ g. (g.next ≡ Some first) × (g.full ≡ full)) }
         ensures history_begins_empty { IfOk result (λ g. Begins P.Pool.state g) }
     {
-        if are_in_range(full, first) {
-            Ok(Gateway::without_calls(full, first, pool))
-        } else {
-            Err(Ground::SettingOutOfRange)
+        if full < 1 || full > 20 || first < 1 {
+            return Err(Ground::SettingOutOfRange);
         }
+        Ok(Gateway {
+            full,
+            next: Some(first),
+            table: Table::new(),
+            trunk: Trunk::new(pool),
+        })
     }
 
     /// The largest channel number of the pool's kind.

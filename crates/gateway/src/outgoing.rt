@@ -1,44 +1,52 @@
-//! Answers that touch no call, and the room for them.
-ghost use Rattle.std.specs.Prelude.{◌≡◌, ◌-◌, ◌≤◌, ◌&&◌, [], ◌∷◌, ◌++◌, length, None, nat_le};
+//! The two outgoing queues, which always go together, and answers that touch no call.
+ghost use Rattle.std.specs.Prelude.{◌≡◌, ◌≤◌, [], ◌∷◌, ◌++◌, length, true, false, MatchResult};
 ghost use Rattle.queues.specs.Waiting.{waiting, room, free};
 ghost use Rattle.calls.specs.declared.outgoing.SipMessage.TheVariants.{Response};
+ghost use Rattle.refusals.specs.declared.Ground.TheVariants.{QueueFull};
+ghost use Rattle.calls.specs.Refusing.{placeless};
 ghost use Rattle.calls.specs.Rules.{quiet as quiet_report};
 ghost use Rattle.moves.specs.Answering.{rejecting};
-ghost use Rattle.gateway.specs.Stands.{placeless};
+ghost use Rattle.gateway.specs.Stands.{has_two_places};
 
 use calls::{Digits, Refused, Report, SipMessage};
 use messages::{CallReference, Message};
 use moves::rejection;
-use queues::few::Few;
 use queues::queue::Queue;
 use refusals::Ground;
 
-/// Whether two messages find a place in either queue.
-pub(crate) fn has_room(exchange: &Queue<'_, Message<Digits>>, sip: &Queue<'_, SipMessage>) -> bool
-    ensures two_places_in_either { result ≡ (nat_le 2 (room exchange.now - length (waiting exchange.now)) && nat_le 2 (room sip.now - length (waiting sip.now))) }
-{
-    exchange.has_room(2) && sip.has_room(2)
+/// What waits for the exchange and what waits for SIP, each in places that the caller lends.
+#[derive(Drop)]
+pub struct Outgoing<'a> {
+    pub(crate) exchange: Queue<'a, Message<Digits>>,
+    pub(crate) sip: Queue<'a, SipMessage>,
 }
 
-/// A refusal on a ground that has no place in the octets.
-pub(crate) fn refused(why: Ground) -> Refused
-    ensures without_a_place { result ≡ placeless why }
-{
-    Refused {
-        ground: why,
-        place: None,
+impl<'a> Outgoing<'a> {
+    /// Nothing waits, whatever the places held.
+    pub fn new(
+        exchange_places: &'a mut [Option<Message<Digits>>],
+        sip_places: &'a mut [Option<SipMessage>],
+    ) -> Outgoing<'a>
+        ensures nothing_waits { (waiting result.exchange ≡ []) × (waiting result.sip ≡ []) }
+        ensures with_the_places { (room result.exchange ≡ length exchange_places.old) × (room result.sip ≡ length sip_places.old) }
+    {
+        Outgoing {
+            exchange: Queue::new(exchange_places),
+            sip: Queue::new(sip_places),
+        }
     }
-}
 
-/// Nothing is seized, released or started.
-pub(crate) fn quiet() -> Report
-    ensures nothing_to_report { result ≡ quiet_report }
-{
-    Report {
-        seized: None,
-        released: None,
-        timer: None,
-        cancelling: false,
+    // That there is room stays a condition of what follows: as a fact of a struct round the queues the check asks for it once more
+    // after messages were put in, when it need not hold.
+    /// Refused unless two messages find a place in either queue: no step sends more.
+    pub(crate) fn need_room(&self) -> Result<(), Refused>
+        ensures two_places_in_either { MatchResult result (λ _. has_two_places self.now ≡ true) (λ e. (has_two_places self.now ≡ false) × (e ≡ placeless QueueFull)) }
+    {
+        if self.exchange.has_room(2) && self.sip.has_room(2) {
+            Ok(())
+        } else {
+            Err(Refused::from(Ground::QueueFull))
+        }
     }
 }
 
@@ -54,7 +62,7 @@ pub(crate) fn reject(
     ensures list { waiting exchange.new ≡ waiting exchange.old ++ rejecting reference value ∷ [] }
 {
     exchange.add(rejection(reference, value));
-    quiet()
+    Report::default()
 }
 
 /// The final response to an INVITE that makes no call.
@@ -68,5 +76,5 @@ pub(crate) fn respond(sip: &mut Queue<'_, SipMessage>, transaction: u64, status:
         transaction,
         status,
     });
-    quiet()
+    Report::default()
 }

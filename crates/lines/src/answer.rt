@@ -1,9 +1,9 @@
 ghost use Rattle.std.specs.Prelude.{◌≡◌, IfOk};
 ghost use Rattle.lines.specs.Verdicts.{is_remark, verdict, verdict_on};
 
-use crate::shown::{MessageText, MisreadText, OctetsText};
+use crate::shown::OctetsText;
 use hexadecimal::octets_in;
-use messages::{Elements, Message, Part};
+use messages::{Message, Part};
 use reader::read;
 use round_trip::write_checked;
 use std::alloc::{AllocError, Global};
@@ -11,7 +11,7 @@ use std::alloc::{AllocError, Global};
 /// More octets than any message takes that is written.
 const ROOM: usize = 64;
 
-/// What a line of input gets.
+/// What a line of input gets. Three cases and no `Result`: what is no hexadecimal is counted as neither a message nor a refusal.
 #[derive(Drop)]
 pub enum Answer {
     Message(String),
@@ -23,46 +23,22 @@ pub enum Answer {
 pub fn is_remark(line: &[u8]) -> bool
     ensures empty_or_a_comment { result ≡ is_remark line.now }
 {
-    match line {
-        [] => true,
-        [first, ..] => *first == b'#',
-    }
-}
-
-fn to_write<'a>(message: Message<Part<'a>>) -> Message<&'a [u8]> {
-    let read = message.elements;
-    let digits = match read.digits {
-        Some(part) => Some(part.octets),
-        None => None,
-    };
-    let elements = Elements {
-        complete: read.complete,
-        cause: read.cause,
-        channel: read.channel,
-        progress: read.progress,
-        digits,
-    };
-    Message {
-        reference: message.reference,
-        kind: message.kind,
-        elements,
-    }
+    matches!(line, [] | [b'#', ..])
 }
 
 /// The line of a message: its fields, and its octets as they are written from those fields.
 fn told_of(heap: Global, message: Message<Part<'_>>) -> Result<String, AllocError> {
-    let text = MessageText { message };
     let mut buffer = [0u8; ROOM];
-    match write_checked(&mut buffer, to_write(message)) {
+    match write_checked(&mut buffer, Message::from(message)) {
         Ok(size) => {
             let octets = OctetsText {
                 octets: &buffer[0..size],
             };
-            format!(in heap; "= {text} octets={octets}")
+            format!(in heap; "= {message} octets={octets}")
         }
         Err(ground) => {
             let number = ground.number();
-            format!(in heap; "= {text} unwritable {number}")
+            format!(in heap; "= {message} unwritable {number}")
         }
     }
 }
@@ -76,9 +52,6 @@ pub fn answer_to(heap: Global, line: &[u8]) -> Result<Answer, AllocError>
     };
     match read(octets.as_slice()) {
         Ok(message) => Ok(Answer::Message(told_of(heap, message)?)),
-        Err(misread) => {
-            let text = MisreadText { misread };
-            Ok(Answer::Refused(format!(in heap; "= {text}")?))
-        }
+        Err(misread) => Ok(Answer::Refused(format!(in heap; "= {misread}")?)),
     }
 }

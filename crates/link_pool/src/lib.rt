@@ -1,16 +1,17 @@
 //! The pool of a link of 30 channels: 1 to 15 and 17 to 31. It takes the highest idle channel.
 #![tactic(auto)]
 
-ghost use Rattle.std.specs.Prelude.{◌≡◌, ℕ};
-ghost use Rattle.pools.specs.States.{AnyWasIdle, after_any};
-ghost use Rattle.link_pool.specs.Links.{at, LinkChannels, all_idle, HighestIdle};
+ghost use Rattle.std.specs.Prelude.{◌≡◌, ℕ, true, if◌then◌else◌};
+ghost use Rattle.pools.specs.States.{AnyWasIdle, after_any, known, put};
+ghost use Rattle.link_pool.specs.Links.{at, same, LinkChannels, all_idle, HighestIdle};
 ghost use Rattle.std.proofs.Common.{rules, arith};
 
 use pools::{ChannelState, Pool};
+use std::array;
 
 #[derive(Drop)]
 pub struct LinkPool {
-    // by channel number
+    // by channel number; an array, since the numbers of a link are fixed and a step uses no heap
     channels: [ChannelState; 32],
     ghost link_channels: { LinkChannels channels },
 }
@@ -29,11 +30,7 @@ fn first_state(c: usize) -> ChannelState
 fn idle_link() -> [ChannelState; 32]
     ensures all_idle { (k : ℕ) → at result k ≡ all_idle k }
 {
-    let mut channels = [ChannelState::Unknown; 32];
-    for c in 0..32 {
-        channels[c] = first_state(c);
-    }
-    channels
+    array::from_fn(first_state)
 }
 
 impl LinkPool {
@@ -50,22 +47,31 @@ impl LinkPool {
     fn state_of(&self, c: u8) -> ChannelState
         ensures that_of_the_table { result ≡ at self.now.channels c }
     {
-        match self.channels.get(c as usize) {
-            Some(state) => *state,
-            None => ChannelState::Unknown,
-        }
+        self.channels
+            .get(usize::from(c))
+            .copied()
+            .unwrap_or(ChannelState::Unknown)
     }
 
     // The highest idle channel, if one is idle.
     fn highest_idle(&self) -> Option<u8>
         ensures idle_and_none_above { HighestIdle result (at self.now.channels) }
     {
-        for c in (1..=31u8).rev() {
-            if self.state_of(c).is_idle() {
-                return Some(c);
-            }
+        (1..=31).rev().find(|c| self.state_of(*c).is_idle())
+    }
+
+    // Turns channel `c` from one known state to another, if it is in the first.
+    fn turn(&mut self, c: u8, from: ChannelState, to: ChannelState) -> bool
+        requires from_a_known_one { known from ≡ true }
+        requires to_a_known_one { known to ≡ true }
+        ensures turned_exactly_if_so { result ≡ same from (at self.old.channels c) }
+        ensures turns_it_alone { (k : ℕ) → at self.new.channels k ≡ (if result then put (at self.old.channels) c to k else at self.old.channels k) }
+    {
+        let turned = self.state_of(c) == from;
+        if turned {
+            self.channels[usize::from(c)] = to;
         }
-        None
+        turned
     }
 }
 
@@ -91,11 +97,7 @@ impl Pool for LinkPool {
     }
 
     fn seize(&mut self, c: u8) -> bool {
-        let granted = self.is_idle(c);
-        if granted {
-            self.channels[c as usize] = ChannelState::Seized;
-        }
-        granted
+        self.turn(c, ChannelState::Idle, ChannelState::Seized)
     }
 
     fn seize_any(&mut self) -> Option<u8>
@@ -103,20 +105,12 @@ impl Pool for LinkPool {
         ensures grant_seizes_it_alone { (k : ℕ) → at self.new.channels k ≡ after_any result (at self.old.channels) k }
         ensures takes_the_highest_idle { HighestIdle result (at self.old.channels) }
     {
-        match self.highest_idle() {
-            Some(c) => {
-                self.channels[c as usize] = ChannelState::Seized;
-                Some(c)
-            }
-            None => None,
-        }
+        let c = self.highest_idle()?;
+        self.channels[usize::from(c)] = ChannelState::Seized;
+        Some(c)
     }
 
     fn release(&mut self, c: u8) -> bool {
-        let granted = self.state_of(c).is_seized();
-        if granted {
-            self.channels[c as usize] = ChannelState::Idle;
-        }
-        granted
+        self.turn(c, ChannelState::Seized, ChannelState::Idle)
     }
 }

@@ -1,5 +1,6 @@
 -- What each information element holds, by its contents, and how a message's elements are gathered.
-use Rattle.std.specs.Prelude.{ℕ, ◌+◌, ◌%◌, Bool, true, false, cond, ◌&&◌, ◌||◌, List, [], ◌∷◌, length, drop, Some, None, Ok, Err, Option, Result, ◌==◌, nat_le, slice_index}
+use Rattle.std.specs.Prelude.{ℕ, ◌+◌, ◌%◌, Bool, true, false, cond, ◌&&◌, ◌||◌, List, length, drop, Some, None, Ok, Err, Option, Result, ◌==◌, nat_le, slice_index}
+use Rattle.std.specs.List.{list_all}
 use Rattle.refusals.specs.declared.Ground.{Ground}
 use Rattle.refusals.specs.declared.Ground.TheVariants.{BadElement}
 use Rattle.messages.specs.declared.record.Cause.{Cause}
@@ -17,8 +18,7 @@ abbrev pub is_digit : ℕ → Bool
 is_digit x = (nat_le 48 x && nat_le x 57) || (x == 42 || x == 35)
 
 abbrev pub all_digits : List ℕ → Bool
-all_digits [] = true
-all_digits (x ∷ xs) = is_digit x && all_digits xs
+all_digits xs = list_all is_digit xs
 
 -- Cause: two contents or more, the first two from 80 up; four bits of location, then seven bits of cause
 abbrev pub cause_of : List ℕ → Option Cause

@@ -3,3 +3,4 @@ pub mod Elements
 pub mod Reading
 pub mod Writing
 pub mod Laws
+pub mod Written

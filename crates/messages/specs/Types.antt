@@ -1,6 +1,7 @@
 -- The octet of each message type.
-use Rattle.std.specs.Prelude.{ℕ, Bool, true, false, cond, Some, None, Option, ◌==◌}
+use Rattle.std.specs.Prelude.{◌≡◌, ℕ, Bool, true, false, cond, Some, None, Ok, Err, Option, Result, ◌==◌}
 use Rattle.messages.specs.declared.kind.MessageType.{MessageType}
+use Rattle.messages.specs.declared.kind.UnknownCode.{UnknownCode}
 use Rattle.messages.specs.declared.kind.MessageType.TheVariants.{Alerting, CallProceeding, Progress, Setup, Connect, SetupAcknowledge, ConnectAcknowledge, Disconnect, Release, ReleaseComplete, Information}
 
 abbrev pub code_of : MessageType → ℕ
@@ -30,6 +31,14 @@ type_of code =
     (cond (code == 0x4d) (Some Release)
     (cond (code == 0x5a) (Some ReleaseComplete)
     (cond (code == 0x7b) (Some Information) None))))))))))
+
+-- the octet's type, or the octet back where it stands for none
+abbrev pub type_or_code : ℕ → Option MessageType → Result MessageType UnknownCode
+type_or_code code (Some kind) = Ok kind
+type_or_code code None = Err (record { 0 = code })
+
+abbrev pub Decodes : ℕ → Result MessageType UnknownCode → Type 0
+Decodes code r = r ≡ type_or_code code (type_of code)
 
 abbrev pub is_setup : MessageType → Bool
 is_setup Alerting = false

@@ -9,15 +9,6 @@ impl<D> Elements<D> {
     pub fn lack_for(&self, kind: MessageType) -> bool
         ensures setup_without_channel_or_number { result ≡ lacking kind self.now }
     {
-        if !kind.is_setup() {
-            return false;
-        }
-        if let None = self.channel {
-            return true;
-        }
-        if let None = self.digits {
-            return true;
-        }
-        false
+        kind.is_setup() && (self.channel.is_none() || self.digits.is_none())
     }
 }

@@ -13,10 +13,5 @@ fn is_digit(octet: u8) -> bool
 pub fn all_digits(octets: &[u8]) -> bool
     ensures each_a_digit { result ≡ all_digits octets.now }
 {
-    for octet in octets {
-        if !is_digit(*octet) {
-            return false;
-        }
-    }
-    true
+    octets.iter().all(|octet| is_digit(*octet))
 }

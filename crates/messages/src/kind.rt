@@ -1,5 +1,8 @@
 ghost use Rattle.std.specs.Prelude.{◌≡◌};
-ghost use Rattle.messages.specs.Types.{code_of, type_of, is_setup};
+ghost use Rattle.messages.specs.Types.{code_of, is_setup, Decodes};
+
+use std::error::Error;
+use std::fmt;
 
 /// The message types of a basic call.
 #[derive(Clone, Copy, PartialEq, Eq, Debug)]
@@ -17,12 +20,16 @@ pub enum MessageType {
     Information,
 }
 
-impl MessageType {
-    /// The octet that stands for the type in a message.
-    pub fn code(self) -> u8
-        ensures octet_of_the_type { result ≡ code_of self }
-    {
-        match self {
+/// An octet that stands for no message type.
+#[derive(Clone, Copy, PartialEq, Eq, Debug)]
+pub struct UnknownCode(pub u8);
+
+/// The octet that stands for the type in a message.
+impl From<MessageType> for u8 {
+    ghost from_gives = { λ kind code. code ≡ code_of kind };
+
+    fn from(kind: MessageType) -> u8 {
+        match kind {
             MessageType::Alerting => 0x01,
             MessageType::CallProceeding => 0x02,
             MessageType::Progress => 0x03,
@@ -36,31 +43,64 @@ impl MessageType {
             MessageType::Information => 0x7b,
         }
     }
+}
 
-    /// The type that an octet stands for, if any.
-    pub fn of(code: u8) -> Option<MessageType>
-        ensures type_of_the_octet { result ≡ type_of code }
-    {
+/// The type that an octet stands for, if any.
+impl TryFrom<u8> for MessageType {
+    type Error = UnknownCode;
+
+    ghost try_from_gives = { Decodes };
+
+    fn try_from(code: u8) -> Result<Self, UnknownCode> {
         match code {
-            0x01 => Some(MessageType::Alerting),
-            0x02 => Some(MessageType::CallProceeding),
-            0x03 => Some(MessageType::Progress),
-            0x05 => Some(MessageType::Setup),
-            0x07 => Some(MessageType::Connect),
-            0x0d => Some(MessageType::SetupAcknowledge),
-            0x0f => Some(MessageType::ConnectAcknowledge),
-            0x45 => Some(MessageType::Disconnect),
-            0x4d => Some(MessageType::Release),
-            0x5a => Some(MessageType::ReleaseComplete),
-            0x7b => Some(MessageType::Information),
-            _ => None,
+            0x01 => Ok(MessageType::Alerting),
+            0x02 => Ok(MessageType::CallProceeding),
+            0x03 => Ok(MessageType::Progress),
+            0x05 => Ok(MessageType::Setup),
+            0x07 => Ok(MessageType::Connect),
+            0x0d => Ok(MessageType::SetupAcknowledge),
+            0x0f => Ok(MessageType::ConnectAcknowledge),
+            0x45 => Ok(MessageType::Disconnect),
+            0x4d => Ok(MessageType::Release),
+            0x5a => Ok(MessageType::ReleaseComplete),
+            0x7b => Ok(MessageType::Information),
+            _ => Err(UnknownCode(code)),
         }
     }
+}
 
+impl MessageType {
     /// Whether the message begins a call.
     pub fn is_setup(self) -> bool
         ensures setup_alone { result ≡ is_setup self }
     {
-        matches!(self, MessageType::Setup)
+        self == MessageType::Setup
     }
 }
+
+/// The name that people write.
+impl fmt::Display for MessageType {
+    fn fmt<W: fmt::Write>(&self, f: &mut fmt::Formatter<W>) -> fmt::Result {
+        f.write_str(match self {
+            MessageType::Alerting => "ALERTING",
+            MessageType::CallProceeding => "CALL PROCEEDING",
+            MessageType::Progress => "PROGRESS",
+            MessageType::Setup => "SETUP",
+            MessageType::Connect => "CONNECT",
+            MessageType::SetupAcknowledge => "SETUP ACKNOWLEDGE",
+            MessageType::ConnectAcknowledge => "CONNECT ACKNOWLEDGE",
+            MessageType::Disconnect => "DISCONNECT",
+            MessageType::Release => "RELEASE",
+            MessageType::ReleaseComplete => "RELEASE COMPLETE",
+            MessageType::Information => "INFORMATION",
+        })
+    }
+}
+
+impl fmt::Display for UnknownCode {
+    fn fmt<W: fmt::Write>(&self, f: &mut fmt::Formatter<W>) -> fmt::Result {
+        write!(f, "no message type has the octet {:02X}", self.0)
+    }
+}
+
+impl Error for UnknownCode {}

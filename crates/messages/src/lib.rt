@@ -5,7 +5,8 @@ mod complete;
 mod digit;
 mod kind;
 mod record;
+mod shown;
 
 pub use digit::all_digits;
-pub use kind::MessageType;
+pub use kind::{MessageType, UnknownCode};
 pub use record::{CallReference, Cause, Channel, Elements, Message, Misread, Part};

@@ -16,7 +16,7 @@ sip_move_of b = record { side = b.side; cancelling = b.cancelling; sent = listed
 
 abbrev pub effect_of : Effect → rules.Effect
 effect_of e =
-    record { after = e.after; seized = e.seized; released = e.released; timer = e.timer; cancelling = e.cancelling; exchange = listed e.exchange; sip = listed e.sip; numbered = e.numbered }
+    record { after = e.after; seized = e.report.seized; released = e.report.released; timer = e.report.timer; cancelling = e.report.cancelling; exchange = listed e.exchange; sip = listed e.sip; numbered = e.numbered }
 
 -- an effect, or the ground of a refusal
 abbrev pub ruling_of : Result Effect Ground → rules.Ruling

@@ -2,15 +2,12 @@
 ghost use Rattle.std.specs.Prelude.{◌≡◌};
 ghost use Rattle.calls.specs.Effects.{ours as own_cause, code as status_for, cause_for, is_unavailable};
 
-use causes::{cause_of, counted_cause, status_of};
+use causes::{REMOTE_PRIVATE_NETWORK, cause_of, counted_cause, status_of};
 use messages::Cause;
-
-/// Where a cause comes from that no status gave: the private network that serves the remote user.
-const REMOTE_PRIVATE_NETWORK: u8 = 5;
 
 const CHANNEL_UNAVAILABLE: u8 = 44;
 
-/// A cause of the gateway's own.
+/// A cause of the gateway's own: it comes from the private network that serves the remote user.
 pub fn ours(value: u8) -> Cause
     ensures from_the_remote_network { result ≡ own_cause value }
 {
@@ -24,26 +21,22 @@ pub fn ours(value: u8) -> Cause
 pub fn code(cause: Option<Cause>) -> u16
     ensures status_of_the_clearing { result ≡ status_for cause }
 {
-    match cause {
-        Some(given) => status_of(counted_cause(Some(given.value)), given.location),
-        None => status_of(counted_cause(None), REMOTE_PRIVATE_NETWORK),
-    }
+    status_of(Cause {
+        value: counted_cause(cause.map(|given| given.value)),
+        location: cause.map_or(REMOTE_PRIVATE_NETWORK, |given| given.location),
+    })
 }
 
 /// The cause for a final response that refuses.
 pub fn cause_for(status: u16) -> Cause
     ensures cause_of_the_status { result ≡ cause_for status }
 {
-    let (value, location) = cause_of(status);
-    Cause { value, location }
+    cause_of(status)
 }
 
 /// Whether the exchange says that the requested channel is not available.
 pub fn is_unavailable(cause: Option<Cause>) -> bool
     ensures that_cause_alone { result ≡ is_unavailable cause }
 {
-    match cause {
-        Some(given) => given.value == CHANNEL_UNAVAILABLE,
-        None => false,
-    }
+    cause.is_some_and(|given| given.value == CHANNEL_UNAVAILABLE)
 }

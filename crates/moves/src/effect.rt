@@ -4,13 +4,13 @@ ghost use Rattle.calls.specs.Effects.{unless_gone, redialled as redialling, move
 ghost use Rattle.queues.specs.Few.{listed};
 ghost use Rattle.moves.specs.Moves.{effect_of, exchange_move_of, sip_move_of};
 
-use calls::{Call, Digits, ExchangeSide, SipMessage, SipSide, Timer};
+use calls::{Call, Digits, ExchangeSide, Report, SipMessage, SipSide, Timer};
 use messages::{CallReference, Message};
 use queues::few::Few;
 use sides::{is_gone, timer_of};
 
 /// The exchange side's part of a step.
-#[derive(Clone, Copy)]
+#[derive(Clone, Copy, PartialEq, Eq, Debug)]
 pub struct ExchangeMove {
     pub side: ExchangeSide,
     pub reference: CallReference,
@@ -22,21 +22,18 @@ pub struct ExchangeMove {
 }
 
 /// The SIP side's part of a step; `cancelling` says that the timer of a CANCEL starts.
-#[derive(Clone, Copy)]
+#[derive(Clone, Copy, PartialEq, Eq, Debug)]
 pub struct SipMove {
     pub side: SipSide,
     pub cancelling: bool,
     pub sent: Few<SipMessage>,
 }
 
-/// What a step does to one call, what it sends and reports, and whether it uses up a number.
-#[derive(Clone, Copy)]
+/// What a step does to one call, what it reports and sends, and whether it uses up a number.
+#[derive(Clone, Copy, PartialEq, Eq, Debug)]
 pub struct Effect {
     pub after: Option<Call>,
-    pub seized: Option<u8>,
-    pub released: Option<u8>,
-    pub timer: Option<Timer>,
-    pub cancelling: bool,
+    pub report: Report,
     pub exchange: Few<Message<Digits>>,
     pub sip: Few<SipMessage>,
     pub numbered: bool,
@@ -46,7 +43,7 @@ pub struct Effect {
 fn unless_gone(call: Call) -> Option<Call>
     ensures none_where_both_sides_are_over { result ≡ unless_gone call }
 {
-    if is_gone(call) { None } else { Some(call) }
+    (!is_gone(call)).then_some(call)
 }
 
 /// Both sides of a call move, and its digits become these.
@@ -62,10 +59,12 @@ pub fn redialled(call: Call, digits: Digits, a: ExchangeMove, b: SipMove) -> Eff
             exchange: a.side,
             sip: b.side,
         }),
-        seized: a.seized,
-        released: a.released,
-        timer: a.timer,
-        cancelling: b.cancelling,
+        report: Report {
+            seized: a.seized,
+            released: a.released,
+            timer: a.timer,
+            cancelling: b.cancelling,
+        },
         exchange: a.sent,
         sip: b.sent,
         numbered: false,
@@ -85,10 +84,12 @@ pub fn made(call: Call, first: Message<Digits>, sip: Few<SipMessage>, numbered: 
 {
     Effect {
         after: Some(call),
-        seized: Some(call.channel),
-        released: None,
-        timer: timer_of(call.exchange),
-        cancelling: false,
+        report: Report {
+            seized: Some(call.channel),
+            released: None,
+            timer: timer_of(call.exchange),
+            cancelling: false,
+        },
         exchange: Few::One(first),
         sip,
         numbered,

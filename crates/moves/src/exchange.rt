@@ -32,12 +32,8 @@ pub fn enters(call: Call, side: ExchangeSide, sent: Few<Message<Digits>>) -> Exc
 {
     ExchangeMove {
         side,
-        reference: call.reference,
-        channel: call.channel,
-        seized: None,
-        released: None,
         timer: timer_of(side),
-        sent,
+        ..stays(call, sent)
     }
 }
 
@@ -47,12 +43,8 @@ pub fn ends(call: Call, sent: Few<Message<Digits>>) -> ExchangeMove
 {
     ExchangeMove {
         side: ExchangeSide::Over,
-        reference: call.reference,
-        channel: call.channel,
-        seized: None,
         released: Some(call.channel),
-        timer: None,
-        sent,
+        ..stays(call, sent)
     }
 }
 
@@ -74,17 +66,16 @@ pub fn retries(call: Call, channel: u8) -> ExchangeMove
     ensures setup_on_the_other_channel { exchange_move_of result ≡ retrying call channel }
 {
     let refused = call.channel;
+    let setup = setup_on(channel, call.digits);
     ExchangeMove {
-        side: ExchangeSide::SetupSent,
         reference: CallReference {
-            flag: call.reference.flag,
             number: u16::from(channel),
+            ..call.reference
         },
         channel,
         seized: Some(channel),
         released: Some(refused),
-        timer: timer_of(ExchangeSide::SetupSent),
-        sent: Few::One(setup_on(channel, call.digits)),
+        ..enters(call, ExchangeSide::SetupSent, Few::One(setup))
     }
 }
 

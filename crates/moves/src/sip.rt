@@ -34,25 +34,19 @@ pub fn keeps(call: Call) -> SipMove
 fn number_of(call: Call) -> u64
     ensures number_of_the_call { result ≡ number_of call }
 {
-    match call.number {
-        Some(number) => number,
-        None => 0,
-    }
+    call.number.unwrap_or(0)
 }
 
 fn clears_from(number: u64, status: u16, side: SipSide) -> SipMove
     ensures cleared_as_the_state_asks { sip_move_of result ≡ clears_from number status side }
 {
     match side {
-        SipSide::InviteSent { told: _ } => SipMove {
+        SipSide::InviteSent { .. } => SipMove {
             side: SipSide::CancelSent,
             cancelling: true,
             sent: Few::One(SipMessage::Cancel { number }),
         },
-        SipSide::InviteUnanswered {
-            transaction,
-            dialogue: _,
-        } => {
+        SipSide::InviteUnanswered { transaction, .. } => {
             becomes(
                 SipSide::None,
                 Few::One(SipMessage::Response {
@@ -77,11 +71,7 @@ pub fn clears_sip(call: Call, status: u16) -> SipMove
 pub fn invites(call: Call, digits: Digits) -> SipMove
     ensures invite_with_the_number { sip_move_of result ≡ inviting (number_of call) digits }
 {
-    let told = Told {
-        alerting: false,
-        interworking: false,
-        inband: false,
-    };
+    let told = Told::default();
     let invite = SipMessage::Invite {
         number: number_of(call),
         digits,
@@ -94,10 +84,7 @@ pub fn responds(status: u16, side: SipSide) -> SipMove
     ensures response_where_unanswered { sip_move_of result ≡ responds_from status side }
 {
     match side {
-        SipSide::InviteUnanswered {
-            transaction,
-            dialogue: _,
-        } => {
+        SipSide::InviteUnanswered { transaction, .. } => {
             let response = SipMessage::Response {
                 transaction,
                 status,
@@ -134,17 +121,14 @@ pub fn leaves_sip(side: SipSide) -> SipMove
     ensures over_or_still_calling { sip_move_of result ≡ leaves_from side }
 {
     match side {
-        SipSide::InviteUnanswered {
-            transaction,
-            dialogue: _,
-        } => {
+        SipSide::InviteUnanswered { transaction, .. } => {
             let terminated = SipMessage::Response {
                 transaction,
                 status: REQUEST_TERMINATED,
             };
             becomes(SipSide::None, Few::One(terminated))
         }
-        SipSide::Up { dialogue: _ } => becomes(SipSide::None, Few::Zero),
+        SipSide::Up { .. } => becomes(SipSide::None, Few::Zero),
         other => becomes(other, Few::Zero),
     }
 }

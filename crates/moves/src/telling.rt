@@ -1,6 +1,6 @@
 //! Messages to the exchange.
 ghost use Rattle.std.specs.Prelude.{◌≡◌};
-ghost use Rattle.calls.specs.Effects.{turned as turned_round, said as saying, exclusively as that_alone, tell as telling, tell_cause, tell_progress, setup_on};
+ghost use Rattle.calls.specs.Effects.{turned as turned_round, exclusively as that_alone, tell as telling, tell_cause, tell_progress, setup_on};
 ghost use Rattle.moves.specs.Answering.{answering_setup, rejecting};
 
 use crate::clearing::ours;
@@ -13,30 +13,18 @@ fn turned(reference: CallReference) -> CallReference
 {
     CallReference {
         flag: !reference.flag,
-        number: reference.number,
+        ..reference
     }
 }
 
-/// A message that carries no digits.
-fn said(
-    kind: MessageType,
-    reference: CallReference,
-    cause: Option<Cause>,
-    channel: Option<Channel>,
-    progress: Option<u8>,
-) -> Message<Digits>
-    ensures message_of_these_elements { result ≡ saying kind reference cause channel progress }
+/// A message in answer to this reference, with these elements.
+fn said(kind: MessageType, reference: CallReference, elements: Elements<Digits>) -> Message<Digits>
+    ensures message_of_these_elements { result ≡ record { reference = turned_round reference; kind = kind; elements = elements } }
 {
     Message {
-        reference,
+        reference: turned(reference),
         kind,
-        elements: Elements {
-            complete: false,
-            cause,
-            channel,
-            progress,
-            digits: None,
-        },
+        elements,
     }
 }
 
@@ -44,21 +32,29 @@ fn said(
 pub fn tell(kind: MessageType, call: Call) -> Message<Digits>
     ensures bare_message { result ≡ telling kind call }
 {
-    said(kind, turned(call.reference), None, None, None)
+    said(kind, call.reference, Elements::bare())
 }
 
 /// A message on a call with a cause, if there is one.
 pub fn tell_cause(kind: MessageType, call: Call, cause: Option<Cause>) -> Message<Digits>
     ensures message_with_the_cause { result ≡ tell_cause kind call cause }
 {
-    said(kind, turned(call.reference), cause, None, None)
+    let with_cause = Elements {
+        cause,
+        ..Elements::bare()
+    };
+    said(kind, call.reference, with_cause)
 }
 
 /// A message on a call with a progress description, if there is one.
 pub fn tell_progress(kind: MessageType, call: Call, progress: Option<u8>) -> Message<Digits>
     ensures message_with_the_progress { result ≡ tell_progress kind call progress }
 {
-    said(kind, turned(call.reference), None, None, progress)
+    let with_progress = Elements {
+        progress,
+        ..Elements::bare()
+    };
+    said(kind, call.reference, with_progress)
 }
 
 /// That channel and no other.
@@ -83,10 +79,9 @@ pub fn setup_on(channel: u8, digits: Digits) -> Message<Digits>
         kind: MessageType::Setup,
         elements: Elements {
             complete: true,
-            cause: None,
             channel: exclusively(channel),
-            progress: None,
             digits: Some(digits),
+            ..Elements::bare()
         },
     }
 }
@@ -95,19 +90,20 @@ pub fn setup_on(channel: u8, digits: Digits) -> Message<Digits>
 pub fn answers_setup(kind: MessageType, reference: CallReference, channel: u8) -> Message<Digits>
     ensures message_with_the_channel { result ≡ answering_setup kind reference channel }
 {
-    said(kind, turned(reference), None, exclusively(channel), None)
+    let with_channel = Elements {
+        channel: exclusively(channel),
+        ..Elements::bare()
+    };
+    said(kind, reference, with_channel)
 }
 
 /// RELEASE COMPLETE with a cause of the gateway's own, to a message that makes or finds no call.
 pub fn rejection(reference: CallReference, value: u8) -> Message<Digits>
     ensures release_complete_with_the_cause { result ≡ rejecting reference value }
 {
-    let reason = Some(ours(value));
-    said(
-        MessageType::ReleaseComplete,
-        turned(reference),
-        reason,
-        None,
-        None,
-    )
+    let with_cause = Elements {
+        cause: Some(ours(value)),
+        ..Elements::bare()
+    };
+    said(MessageType::ReleaseComplete, reference, with_cause)
 }

@@ -4,10 +4,7 @@ use pools::Pool;
 #[test]
 fn knows_1_to_15_and_17_to_31(rt: HostRuntime) {
     let pool = LinkPool::new();
-    for c in 1..=15 {
-        assert!(rt; pool.is_idle(c));
-    }
-    for c in 17..=31 {
+    for c in (1..=15).chain(17..=31) {
         assert!(rt; pool.is_idle(c));
     }
     assert!(rt; !pool.is_idle(0));
@@ -43,10 +40,7 @@ fn an_unknown_number_is_neither_seized_nor_released(rt: HostRuntime) {
 #[test]
 fn takes_the_highest_to_exhaustion_and_again(rt: HostRuntime) {
     let mut pool = LinkPool::new();
-    for c in (17..=31).rev() {
-        assert_eq!(rt; pool.seize_any(), Some(c));
-    }
-    for c in (1..=15).rev() {
+    for c in (1..=15).chain(17..=31).rev() {
         assert_eq!(rt; pool.seize_any(), Some(c));
     }
     assert_eq!(rt; pool.seize_any(), None, "none is idle");
@@ -63,10 +57,7 @@ fn all_come_back(rt: HostRuntime) {
     for _ in 0..30 {
         assert_ne!(rt; pool.seize_any(), None);
     }
-    for c in 1..=15 {
-        assert!(rt; pool.release(c));
-    }
-    for c in 17..=31 {
+    for c in (1..=15).chain(17..=31) {
         assert!(rt; pool.release(c));
     }
     assert_eq!(rt; pool.seize_any(), Some(31));

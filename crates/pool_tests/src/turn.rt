@@ -1,28 +1,16 @@
 use pools::Pool;
+use std::array;
 use std::test::Fail;
 use turn_pool::TurnPool;
 
 // The number of the ground on which a list is refused.
 fn refusal(list: &[u8]) -> Option<u8> {
-    match TurnPool::new(list) {
-        Ok(_) => None,
-        Err(ground) => Some(ground.number()),
-    }
-}
-
-// The numbers from `first` on, one to each place.
-fn number_from(list: &mut [u8], first: u8) {
-    let mut c = first;
-    for place in list.iter_mut() {
-        *place = c;
-        c = c.saturating_add(1);
-    }
+    TurnPool::new(list).err().map(|ground| ground.number())
 }
 
 #[test]
 fn lists_that_make_no_pool(rt: HostRuntime) {
-    let mut long = [0; 65];
-    number_from(&mut long, 1);
+    let long: [u8; 65] = array::from_fn(|i| i as u8 + 1);
     assert_eq!(rt; refusal(&[]), Some(11), "empty");
     assert_eq!(rt; refusal(&long), Some(11), "65 numbers");
     assert_eq!(rt; refusal(&[1, 2, 0]), Some(11), "0");
@@ -33,8 +21,7 @@ fn lists_that_make_no_pool(rt: HostRuntime) {
 
 #[test]
 fn lists_that_make_a_pool(rt: HostRuntime) {
-    let mut full = [0; 64];
-    number_from(&mut full, 64);
+    let full: [u8; 64] = array::from_fn(|i| i as u8 + 64);
     assert_eq!(rt; refusal(&[1]), None);
     assert_eq!(rt; refusal(&[127, 1]), None);
     assert_eq!(rt; refusal(&full), None, "64 numbers, from 64 to 127");
@@ -71,8 +58,7 @@ fn takes_the_longest_idle(rt: HostRuntime) -> Result<(), Fail> {
 
 #[test]
 fn to_exhaustion_and_back(rt: HostRuntime) -> Result<(), Fail> {
-    let mut list = [0; 64];
-    number_from(&mut list, 31);
+    let list: [u8; 64] = array::from_fn(|i| i as u8 + 31);
     let mut pool = TurnPool::new(&list)?;
     for c in 31..=94 {
         assert_eq!(rt; pool.seize_any(), Some(c));

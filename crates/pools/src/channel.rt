@@ -1,7 +1,8 @@
 ghost use Rattle.std.specs.Prelude.{◌≡◌};
 ghost use Rattle.pools.specs.States.{known, idle, seized};
 
-/// What a pool holds a channel number to be. A further known state joins as one more case here and in the questions below.
+// Not an `Option` round a flag: a further known state joins as one more case here.
+/// What a pool holds a channel number to be.
 #[derive(Clone, Copy, PartialEq, Eq, Debug)]
 pub enum ChannelState {
     Unknown,
@@ -14,29 +15,20 @@ impl ChannelState {
     pub fn is_known(self) -> bool
         ensures yes_exactly_if_known { result ≡ known self }
     {
-        match self {
-            ChannelState::Unknown => false,
-            ChannelState::Idle | ChannelState::Seized => true,
-        }
+        self != ChannelState::Unknown
     }
 
     /// May it be seized?
     pub fn is_idle(self) -> bool
         ensures yes_exactly_if_idle { result ≡ idle self }
     {
-        match self {
-            ChannelState::Idle => true,
-            ChannelState::Unknown | ChannelState::Seized => false,
-        }
+        self == ChannelState::Idle
     }
 
     /// May it be released?
     pub fn is_seized(self) -> bool
         ensures yes_exactly_if_seized { result ≡ seized self }
     {
-        match self {
-            ChannelState::Seized => true,
-            ChannelState::Unknown | ChannelState::Idle => false,
-        }
+        self == ChannelState::Seized
     }
 }

@@ -7,7 +7,7 @@ use Rattle.std.proofs.lemmas.Bool.{cond-true, cond-false, ltb-true, ltb-false, e
 use Rattle.queues.specs.Ring.{ring, gathered, in_ring, behind, onward}
 
 module _ {M : Type 0} where
-  pub same_length : (xs ys : List (Option M)) (i : ℕ) (v : Option M) → ys ≡ set xs i v → length ys ≡ length xs
+  same_length : (xs ys : List (Option M)) (i : ℕ) (v : Option M) → ys ≡ set xs i v → length ys ≡ length xs
   same_length xs ys i v e = ap length e ∙ simp length-set
 
   gathered_push : (l : List (Option M)) (m : M) → gathered (l ++ Some m ∷ []) ≡ gathered l ++ m ∷ []
@@ -58,6 +58,11 @@ module _ {M : Type 0} where
   pub waits_last : (xs ys : List (Option M)) (f n count at : ℕ) (m : M) → f ≤ length xs → n < length xs → count ≡ length xs → at ≡ behind f n count → ys ≡ set xs at (Some m) → in_ring ys f (n + 1) ≡ in_ring xs f n ++ m ∷ []
   waits_last xs ys f n count at m hf h c a y =
       ap (λ l. in_ring l f (n + 1)) (y ∙ ap (λ i. set xs i (Some m)) (a ∙ ap (behind f n) c)) ∙ put_last xs f n m hf h
+
+  -- one message more waits
+  pub one_longer : (xs ys : List (Option M)) (f n count at : ℕ) (m : M) → f ≤ length xs → n < length xs → length (in_ring xs f n) ≡ n → count ≡ length xs → at ≡ behind f n count → ys ≡ set xs at (Some m) → length (in_ring ys f (n + 1)) ≡ n + 1
+  one_longer xs ys f n count at m hf h counted c a y =
+      ap length (waits_last xs ys f n count at m hf h c a y) ∙ length_push (in_ring xs f n) m ∙ ap (λ k. k + 1) counted
 
   -- the places behind the first used one, round the end
   rest : List (Option M) → ℕ → List (Option M)
@@ -122,16 +127,11 @@ module _ {M : Type 0} where
       let to = sym (step ∙ ap (onward f) (c ∙ same_length xs ys f None after)) in
       transport (λ i. MatchOption (sym value i) ⊥ (λ m. in_ring xs f n ≡ m ∷ in_ring (sym after i) (to i) (n - 1))) (take_first xs f n h p k counted)
 
-  -- one message fewer waits
-  pub one_fewer : (r : Option M) (before after : List M) (n : ℕ) → MatchOption r ⊥ (λ m. before ≡ m ∷ after) → length before ≡ n → length after ≡ n - 1
+  one_fewer : (r : Option M) (before after : List M) (n : ℕ) → MatchOption r ⊥ (λ m. before ≡ m ∷ after) → length before ≡ n → length after ≡ n - 1
   one_fewer None before after n h e = absurd h
   one_fewer (Some m) before after n h e = let more = ap length h in omega arith
 
--- messages that came one after the other
-module _ {M : Type 0} where
-  pub one_more : (before after : List M) (a : M) → after ≡ before ++ a ∷ [] → length after ≡ length before + 1
-  one_more before after a e = ap length e ∙ length_push before a
-
-  pub two_more : (before between after : List M) (a b : M) → between ≡ before ++ a ∷ [] → after ≡ between ++ b ∷ [] → after ≡ before ++ a ∷ b ∷ []
-  two_more before between after a b first second =
-      second ∙ ap (λ l. l ++ b ∷ []) first ∙ append_assoc before (a ∷ []) (b ∷ [])
+  -- one message fewer waits
+  pub one_shorter : (xs ys : List (Option M)) (f n count next : ℕ) (r : Option M) → f < length xs → 0 < n → n ≤ length xs → length (in_ring xs f n) ≡ n → r ≡ get_or xs f None → ys ≡ set xs f None → count ≡ length ys → next ≡ onward f count → length (in_ring ys next (n - 1)) ≡ n - 1
+  one_shorter xs ys f n count next r h p k counted value after c step =
+      one_fewer r _ _ n (oldest_leaves xs ys f n count next r h p k counted value after c step) counted

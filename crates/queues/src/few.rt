@@ -2,8 +2,8 @@
 ghost use Rattle.std.specs.Prelude.{◌≡◌, length};
 ghost use Rattle.queues.specs.Few.{listed};
 
-// At most two messages, in their order.
-#[derive(Clone, Copy, Drop)]
+// At most two messages, in their order. Stays an enum of its own: it is `Copy` where its messages are, which no vector is.
+#[derive(Clone, Copy, PartialEq, Eq, Debug, Drop)]
 pub enum Few<M> {
     Zero,
     One(M),

@@ -1,13 +1,15 @@
-// A queue over places that the caller lends. What it does is in `methods`.
+// A queue over places that the caller lends, and no vector: a step has fixed memory and no heap. What it does is in `methods`.
 ghost use Rattle.std.specs.Prelude.{◌≡◌, ◌-◌, ◌<◌, ◌≤◌, length, Some, None, slice_index_or, slice_set};
 ghost use Rattle.queues.specs.Ring.{in_ring};
 
 use refusals::Ground;
+use std::error::Error;
+use std::fmt;
 
 pub mod methods;
 mod places;
 
-// The lent places, apart from the queue's numbers: a struct with an invariant cannot lend a part of itself.
+// The lent places. Stays apart from the queue's numbers: a struct with an invariant cannot lend a part of itself.
 #[derive(Drop)]
 pub struct Lane<'a, M> {
     places: &'a mut [Option<M>],
@@ -52,8 +54,17 @@ pub struct Queue<'a, M> {
 }
 
 // A message that found no place, handed back with the ground.
-#[derive(Drop)]
+#[derive(Clone, Copy, PartialEq, Eq, Debug, Drop)]
 pub struct Refused<M> {
     pub ground: Ground,
     pub message: M,
 }
+
+// The ground alone: a message need not be printable.
+impl<M> fmt::Display for Refused<M> {
+    fn fmt<W: fmt::Write>(&self, f: &mut fmt::Formatter<W>) -> fmt::Result {
+        write!(f, "{}", self.ground)
+    }
+}
+
+impl<M: fmt::Debug + Drop> Error for Refused<M> {}

@@ -30,6 +30,11 @@ fn one_place(rt: HostRuntime) -> Result<(), Fail> {
     };
     assert_eq!(rt; refused.ground.number(), 23);
     assert_eq!(rt; refused.message.as_str(), "RELEASE");
+    let said = format!(in heap; "{refused}")?;
+    assert_eq!(rt;
+        said.as_str(),
+        "not enough free places in an outgoing queue"
+    );
     assert_eq!(rt; queue.take().ok_or("nothing waits")?.as_str(), "SETUP");
     assert!(rt; queue.take().is_none());
     Ok(())

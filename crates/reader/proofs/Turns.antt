@@ -1,93 +1,54 @@
--- One turn of the reading: the element at a place joins what was seen, and the reading goes on behind it.
-use Rattle.std.proofs.Common.{◌≡◌, ℕ, ◌+◌, ◌<◌, ◌≤◌, true, false, eqb, ltb, leb, List, length, get_or, take, drop, Some, None, Ok, Err, Option, Result, sym, refl, ap, ◌∙◌, ⊎_elim, add-zero, arith}
-use Rattle.std.proofs.lemmas.List.{at_drop_more, at_drop_all, length-drop, length-take, get_or-drop, drop-drop}
-use Rattle.std.proofs.lemmas.Bool.{eq-eqb, ne_eqb, le-ltb, lt-ltb}
-use Rattle.std.proofs.lemmas.Bool.Decides.{leb_tells, nat_tests}
+-- One turn of the reading: the element at the front joins what was seen, and the reading goes on behind it.
+use Rattle.std.proofs.Common.{◌≡◌, ℕ, ◌+◌, ◌-◌, ◌<◌, ◌≤◌, suc, true, false, ltb, leb, List, [], ◌∷◌, length, get_or, take, drop, Some, None, Ok, Err, Option, Result, refl, ap, ◌∙◌, ⊎_elim, arith, length-drop}
+use Rattle.std.proofs.lemmas.Bool.{le-ltb, lt-ltb}
+use Rattle.std.proofs.lemmas.Bool.Decides.{leb_tells}
+use Rattle.refusals.specs.declared.Ground.TheVariants.{ElementPastEnd}
 use Rattle.messages.specs.declared.record.Elements.{Elements}
 use Rattle.messages.specs.declared.record.Misread.{Misread}
-use Rattle.messages.specs.Elements.{Digits, bare, noted}
+use Rattle.messages.specs.Elements.{Digits, misread, noted}
 use Rattle.messages.specs.Reading.{gathered, onward}
 use Rattle.messages.proofs.Passing.{skipped}
-use Rattle.reader.specs.Items.{Item, item_at, size}
-
--- what an element comes to, and what follows it
-abbrev pub continued : List ℕ → ℕ → Elements Digits → Result (Option Item) Misread → Result (Elements Digits) Misread
-continued xs at s (Err e) = Err e
-continued xs at s (Ok None) = Ok s
-continued xs at s (Ok (Some i)) =
-    onward (noted i.id i.place i.contents s) (λ more. gathered 0 (5 + (at + size i)) (drop (at + size i) xs) more)
+use Rattle.reader.specs.Items.{parts_of}
 
 -- two ways to go on that come to the same
 alike : (r : Result (Elements Digits) Misread) (f g : Elements Digits → Result (Elements Digits) Misread) → ((s : Elements Digits) → f s ≡ g s) → onward r f ≡ onward r g
 alike (Ok s) f g h = h s
 alike (Err e) f g h = refl
 
+-- what an element with these contents, and these octets behind it, comes to
+abbrev pub goes_on : ℕ → ℕ → List ℕ → Option (List ℕ × List ℕ) → Elements Digits → Result (Elements Digits) Misread
+goes_on id p octets None s = Err (misread ElementPastEnd p)
+goes_on id p octets (Some (cs, rest)) s =
+    onward (noted id p cs s) (λ more. gathered 0 (p + (length octets - length rest)) rest more)
+
 -- an octet from 80 up is an element alone
-turn_alone : (xs : List ℕ) (at : ℕ) (s : Elements Digits) → at < length xs → leb 128 (get_or xs at 0) ≡ true → gathered 0 (5 + at) (drop at xs) s ≡ continued xs at s (item_at xs at)
-turn_alone xs at s h a =
-    let z : eqb at (length xs) ≡ false = ne_eqb _ _ (λ e. omega arith) in
-    let e : 5 + at + 1 ≡ 5 + (at + 1) = omega arith in
-    at_drop_more (λ ys. gathered 0 (5 + at) ys s) xs at 0 h
-    ∙ simp (a, z) (alike _ _ _ (λ m. ap (λ q. gathered 0 q (drop (at + 1) xs) m) e))
-
--- what stands behind the identifier, by places of the whole
-count : (xs : List ℕ) (at : ℕ) → get_or (drop (at + 1) xs) 0 0 ≡ get_or xs (at + 1) 0
-count xs at = simp (get_or-drop, add-zero)
-
-behind : (xs : List ℕ) (at : ℕ) → drop 1 (drop (at + 1) xs) ≡ drop (at + 2) xs
-behind xs at = let e : at + 1 + 1 ≡ at + 2 = omega arith in simp (drop-drop, e)
+turn_alone : (id p : ℕ) (xs : List ℕ) (s : Elements Digits) → leb 128 id ≡ true → gathered 0 p (id ∷ xs) s ≡ goes_on id p (id ∷ xs) (parts_of id xs) s
+turn_alone id p xs s a =
+    let e : p + 1 ≡ p + (suc (length xs) - length xs) = omega arith in
+    simp a (alike (noted id p [] s) _ _ (λ m. ap (λ q. gathered 0 q xs m) e))
 
 -- an element whose contents are not all there
-turn_past : (xs : List ℕ) (at : ℕ) (s : Elements Digits) → at < length xs → leb 128 (get_or xs at 0) ≡ false → length xs < at + 2 + get_or xs (at + 1) 0 → gathered 0 (5 + at) (drop at xs) s ≡ continued xs at s (item_at xs at)
-turn_past xs at s h a p =
-    let z : eqb at (length xs) ≡ false = ne_eqb _ _ (λ e. omega arith) in
-    let n : get_or (drop (at + 1) xs) 0 0 ≡ get_or xs (at + 1) 0 = count xs at in
-    let d : length (drop (at + 1) xs) < get_or xs (at + 1) 0 + 1 = simp length-drop (omega arith) in
-    let t : ltb (length (drop (at + 1) xs)) (get_or xs (at + 1) 0 + 1) ≡ true = lt-ltb _ _ d in
-    let u : ltb (length xs) (at + 2 + get_or xs (at + 1) 0) ≡ true = lt-ltb _ _ p in
-    at_drop_more (λ ys. gathered 0 (5 + at) ys s) xs at 0 h ∙ simp (a, z, n, t, u)
+turn_past : (id p : ℕ) (xs : List ℕ) (s : Elements Digits) → leb 128 id ≡ false → length xs < get_or xs 0 0 + 1 → gathered 0 p (id ∷ xs) s ≡ goes_on id p (id ∷ xs) (parts_of id xs) s
+turn_past id p xs s a h = simp (a, lt-ltb (length xs) (get_or xs 0 0 + 1) h)
 
 -- an element that is there whole
-turn_whole : (xs : List ℕ) (at : ℕ) (s : Elements Digits) → at < length xs → leb 128 (get_or xs at 0) ≡ false → at + 2 + get_or xs (at + 1) 0 ≤ length xs → gathered 0 (5 + at) (drop at xs) s ≡ continued xs at s (item_at xs at)
-turn_whole xs at s h a p =
-    let z : eqb at (length xs) ≡ false = ne_eqb _ _ (λ e. omega arith) in
-    let n : get_or (drop (at + 1) xs) 0 0 ≡ get_or xs (at + 1) 0 = count xs at in
-    let b : drop 1 (drop (at + 1) xs) ≡ drop (at + 2) xs = behind xs at in
-    let d : get_or xs (at + 1) 0 + 1 ≤ length (drop (at + 1) xs) = simp length-drop (omega arith) in
-    let t : ltb (length (drop (at + 1) xs)) (get_or xs (at + 1) 0 + 1) ≡ false = le-ltb _ _ d in
-    let u : ltb (length xs) (at + 2 + get_or xs (at + 1) 0) ≡ false = le-ltb _ _ p in
-    let l : length (take (get_or xs (at + 1) 0) (drop (at + 2) xs)) ≡ get_or xs (at + 1) 0 = simp (length-take, length-drop) (omega arith) in
-    let e : 5 + at + 1 + (get_or xs (at + 1) 0 + 1) ≡ 5 + (at + (2 + get_or xs (at + 1) 0)) = omega arith in
-    let f : at + 1 + (get_or xs (at + 1) 0 + 1) ≡ at + (2 + get_or xs (at + 1) 0) = omega arith in
-    at_drop_more (λ ys. gathered 0 (5 + at) ys s) xs at 0 h
-    ∙ simp (a, z, n, b, t, u, l)
-    (alike _
-    (λ m. gathered (get_or xs (at + 1) 0 + 1) (5 + at + 1) (drop (at + 1) xs) m)
-    (λ m. gathered 0 (5 + (at + (2 + get_or xs (at + 1) 0))) (drop (at + (2 + get_or xs (at + 1) 0)) xs) m)
-    (λ m. skipped (get_or xs (at + 1) 0 + 1) (5 + at + 1) (drop (at + 1) xs) m d ∙ simp (drop-drop, e, f)))
+turn_whole : (id p : ℕ) (xs : List ℕ) (s : Elements Digits) → leb 128 id ≡ false → get_or xs 0 0 + 1 ≤ length xs → gathered 0 p (id ∷ xs) s ≡ goes_on id p (id ∷ xs) (parts_of id xs) s
+turn_whole id p xs s a h =
+    let n = get_or xs 0 0 + 1 in
+    let t : ltb (length xs) n ≡ false = le-ltb _ _ h in
+    let e : p + 1 + n ≡ p + (suc (length xs) - length (drop n xs)) = simp length-drop (omega arith) in
+    simp (a, t) (alike (noted id p (take (get_or xs 0 0) (drop 1 xs)) s) _ _
+    (λ m. skipped n (p + 1) xs m h ∙ ap (λ q. gathered 0 q (drop n xs) m) e))
 
-turn_more : (xs : List ℕ) (at : ℕ) (s : Elements Digits) → at < length xs → gathered 0 (5 + at) (drop at xs) s ≡ continued xs at s (item_at xs at)
-turn_more xs at s h =
+turn_of : (id p : ℕ) (xs : List ℕ) (s : Elements Digits) → gathered 0 p (id ∷ xs) s ≡ goes_on id p (id ∷ xs) (parts_of id xs) s
+turn_of id p xs s =
     ⊎_elim
-    (λ a. turn_alone xs at s h a.0)
+    (λ a. turn_alone id p xs s a.0)
     (λ a. ⊎_elim
-    (λ p. turn_whole xs at s h a.0 p.1)
-    (λ p. turn_past xs at s h a.0 p.1)
-    (leb_tells (at + 2 + get_or xs (at + 1) 0) (length xs)))
-    (leb_tells 128 (get_or xs at 0))
+    (λ h. turn_whole id p xs s a.0 h.1)
+    (λ h. turn_past id p xs s a.0 h.1)
+    (leb_tells (get_or xs 0 0 + 1) (length xs)))
+    (leb_tells 128 id)
 
-turn_end : (xs : List ℕ) (at : ℕ) (s : Elements Digits) → length xs ≤ at → at ≤ length xs → gathered 0 (5 + at) (drop at xs) s ≡ continued xs at s (item_at xs at)
-turn_end xs at s h k =
-    let z : eqb at (length xs) ≡ true = eq-eqb _ _ (omega arith) in
-    at_drop_all (λ ys. gathered 0 (5 + at) ys s) xs at h ∙ simp z
-
-pub turn : (xs : List ℕ) (at : ℕ) (s : Elements Digits) → at ≤ length xs → gathered 0 (5 + at) (drop at xs) s ≡ continued xs at s (item_at xs at)
-turn xs at s h = ⊎_elim (λ k. turn_end xs at s k.1 h) (λ k. turn_more xs at s k.1) (leb_tells (length xs) at)
-
--- the reading at a place, with what was seen, comes to the whole's answer: so it does by what the element there comes to
-pub goes_on : {part ys : List ℕ} {at : ℕ} (s : Elements Digits) → ys ≡ part → at ≤ length part → gathered 0 (5 + at) (drop at part) s ≡ gathered 0 5 part bare → (r : Result (Option Item) Misread) → r ≡ item_at ys at → continued part at s r ≡ gathered 0 5 part bare
-goes_on {part} {ys} {at} s p h i r e =
-    ap (continued part at s) (e ∙ ap (λ xs. item_at xs at) p) ∙ sym (turn part at s h) ∙ i
-
-pub some_octets : (i : Item) → 1 ≤ size i
-some_octets i = grind (arith, nat_tests)
+pub turn : {octets xs : List ℕ} {id : ℕ} {parts : Option (List ℕ × List ℕ)} (p : ℕ) (s : Elements Digits) → octets ≡ id ∷ xs → parts ≡ parts_of id xs → gathered 0 p octets s ≡ goes_on id p octets parts s
+turn {octets} {xs} {id} {parts} p s e f = rw (e, f) (turn_of id p xs s)

@@ -1,11 +1,9 @@
-ghost use Rattle.std.specs.Prelude.{◌≡◌, ◌+◌, ◌^◌, ◌<◌, ◌≤◌, length, IfSome, IfOk};
-ghost use Rattle.reader.specs.Items.{octets_of, seen_item, item_at, place_after};
+ghost use Rattle.std.specs.Prelude.{◌≡◌, ◌+◌, ◌^◌, ◌<◌, length};
 
+use crate::refusal::refuse;
 use messages::Misread;
 use refusals::Ground;
-
-/// How many octets come before the first element.
-const HEADER: usize = 5;
+use std::mem;
 
 /// An information element: its identifier, the place of its first octet in the message, and its contents.
 #[derive(Clone, Copy)]
@@ -13,58 +11,57 @@ pub struct Element<'a> {
     pub id: u8,
     pub place: usize,
     pub contents: &'a [u8],
+    ghost countable: { place + 3 < 2 ^ 64 },
 }
 
-/// Goes through the element part of a message.
+/// Goes through the elements of a message: the octets that are left, and the place of their first in the message.
 #[derive(Drop)]
 pub struct Reader<'a> {
-    pub elements: &'a [u8],
-    pub at: usize,
+    pub rest: &'a [u8],
+    pub place: usize,
+    ghost countable: { place + length rest.now + 3 < 2 ^ 64 },
 }
 
 impl<'a> Reader<'a> {
-    /// The next element, or `None` at the end.
-    pub fn next(&mut self) -> Result<Option<Element<'a>>, Misread>
-        requires within { self.old.at ≤ length (octets_of self.old) }
-        ensures element { seen_item result ≡ item_at (octets_of self.old) self.old.at }
-        ensures place { self.new.at ≡ place_after (seen_item result) self.old.at }
-        ensures bound { self.new.at ≤ length (octets_of self.old) }
-        ensures countable { IfOk result (λ o. IfSome o (λ e. e.place + 3 < 2 ^ 64)) }
-        ensures same { octets_of self.new ≡ octets_of self.old }
+    ghost use Rattle.reader.specs.Items.{seen_parts, parts_of};
+
+    /// The contents of an element and the octets behind it, by its identifier and all that follows that; `None` where the
+    /// contents are not all there.
+    fn parts(id: u8, behind: &'a [u8]) -> Option<(&'a [u8], &'a [u8])>
+        ensures contents_and_rest { seen_parts result ≡ parts_of id behind.now }
     {
-        let octets = self.elements;
-        let at = self.at;
-        if at == octets.len() {
-            return Ok(None);
-        }
-        let id = octets[at];
-        let place = HEADER + at;
         if id >= 0x80 {
-            self.at = at + 1;
-            return Ok(Some(Element {
-                id,
-                place,
-                contents: &octets[at..at],
-            }));
+            return Some(behind.split_at(0));
         }
-        if octets.len() - at < 2 {
-            return Err(Misread {
-                ground: Ground::ElementPastEnd,
-                place,
-            });
-        }
-        let count = octets[at + 1] as usize;
-        if octets.len() - at - 2 < count {
-            return Err(Misread {
-                ground: Ground::ElementPastEnd,
-                place,
-            });
-        }
-        self.at = at + 2 + count;
-        Ok(Some(Element {
-            id,
+        let (count, behind) = behind.split_first()?;
+        behind.split_at_checked(usize::from(*count))
+    }
+}
+
+impl<'a> Iterator for Reader<'a> {
+    ghost use Rattle.std.specs.Iterator.{item_count};
+    ghost use Rattle.reader.specs.Items.{octets_left, GivesElement};
+
+    type Item = Result<Element<'a>, Misread>;
+
+    ghost next_gives = { GivesElement };
+
+    ghost remaining = { item_count octets_left };
+
+    fn next(&mut self) -> Option<Result<Element<'a>, Misread>> {
+        // An element that is cut off leaves nothing behind it.
+        let octets = mem::take(&mut self.rest);
+        let place = self.place;
+        let (id, behind) = octets.split_first()?;
+        let Some((contents, rest)) = Self::parts(*id, behind) else {
+            return Some(refuse(Ground::ElementPastEnd, place));
+        };
+        self.rest = rest;
+        self.place += octets.len() - rest.len();
+        Some(Ok(Element {
+            id: *id,
             place,
-            contents: &octets[at + 2..at + 2 + count],
+            contents,
         }))
     }
 }

@@ -2,6 +2,7 @@ ghost use Rattle.std.specs.Prelude.{◌≡◌, drop, IfOk};
 ghost use Rattle.messages.specs.Reading.{headed, bad_reference};
 ghost use Rattle.reader.specs.Seen.{seen_header};
 
+use crate::refusal::refuse;
 use messages::{CallReference, MessageType, Misread};
 use refusals::Ground;
 
@@ -24,38 +25,23 @@ pub fn read_header(octets: &[u8]) -> Result<Header<'_>, Misread>
     ensures the_rest { IfOk result (λ h. h.elements.now ≡ drop 5 octets.now) }
 {
     let [discriminator, length, high, low, code, elements @ ..] = octets else {
-        return Err(Misread {
-            ground: Ground::TooFewOctets,
-            place: octets.len(),
-        });
+        return refuse(Ground::TooFewOctets, octets.len());
     };
     if *discriminator != 0x08 {
-        return Err(Misread {
-            ground: Ground::WrongDiscriminator,
-            place: 0,
-        });
+        return refuse(Ground::WrongDiscriminator, 0);
     }
     if *length != 0x02 {
-        return Err(Misread {
-            ground: Ground::WrongDiscriminator,
-            place: 1,
-        });
+        return refuse(Ground::WrongDiscriminator, 1);
     }
-    let Some(kind) = MessageType::of(*code) else {
-        return Err(Misread {
-            ground: Ground::UnknownType,
-            place: 4,
-        });
+    let Ok(kind) = MessageType::try_from(*code) else {
+        return refuse(Ground::UnknownType, 4);
     };
     let reference = CallReference {
         flag: *high >= 0x80,
         number: (*high % 0x80) as u16 * 256 + *low as u16,
     };
     if is_bad(reference, kind) {
-        return Err(Misread {
-            ground: Ground::BadReference,
-            place: 2,
-        });
+        return refuse(Ground::BadReference, 2);
     }
     Ok(Header {
         reference,

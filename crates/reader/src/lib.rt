@@ -6,5 +6,6 @@ mod element;
 mod header;
 mod message;
 mod noting;
+mod refusal;
 
 pub use message::read;

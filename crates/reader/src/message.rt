@@ -7,16 +7,17 @@ ghost use Rattle.reader.specs.Items.{seen_noted};
 use crate::element::Reader;
 use crate::header::read_header;
 use crate::noting::note;
+use crate::refusal::refuse;
 use messages::{Elements, Message, Misread, Part};
 use refusals::Ground;
+
+/// How many octets come before the first element.
+const HEADER: usize = 5;
 
 fn read_elements(part: &[u8]) -> Result<Elements<Part<'_>>, Misread>
     ensures gathered_from_the_left { seen_noted result ≡ gathered 0 5 part.now bare }
 {
-    let mut reader = Reader {
-        elements: part,
-        at: 0,
-    };
+    // Stays a literal: after a call of `bare` the borrow checker does not cover the loop.
     let mut seen = Elements {
         complete: false,
         cause: None,
@@ -24,8 +25,12 @@ fn read_elements(part: &[u8]) -> Result<Elements<Part<'_>>, Misread>
         progress: None,
         digits: None,
     };
-    while let Some(element) = reader.next()? {
-        seen = note(seen, element)?;
+    let elements = Reader {
+        rest: part,
+        place: HEADER,
+    };
+    for element in elements {
+        seen = note(seen, element?)?;
     }
     Ok(seen)
 }
@@ -38,10 +43,7 @@ pub fn read(octets: &[u8]) -> Result<Message<Part<'_>>, Misread>
     let header = read_header(octets)?;
     let elements = read_elements(header.elements)?;
     if elements.lack_for(header.kind) {
-        return Err(Misread {
-            ground: Ground::IncompleteSetup,
-            place: octets.len(),
-        });
+        return refuse(Ground::IncompleteSetup, octets.len());
     }
     Ok(Message {
         reference: header.reference,

@@ -4,7 +4,11 @@
 ghost use Rattle.std.specs.Prelude.{◌≡◌};
 ghost use Rattle.refusals.specs.Grounds.{number_of, Says};
 
-// Why an input was refused. A new ground joins as one more case here, in `number` and in `text`.
+use std::error::Error;
+use std::fmt;
+
+// Why an input was refused. A new ground joins as one more case here, in `number` and in `text`. Its number is what people and logs
+// name it by, and no other way to keep it: code compares grounds themselves.
 #[derive(Clone, Copy, PartialEq, Eq, Debug)]
 pub enum Ground {
     TooFewOctets,
@@ -80,3 +84,11 @@ impl Ground {
         }
     }
 }
+
+impl fmt::Display for Ground {
+    fn fmt<W: fmt::Write>(&self, f: &mut fmt::Formatter<W>) -> fmt::Result {
+        f.write_str(self.text())
+    }
+}
+
+impl Error for Ground {}

@@ -1,1 +1,2 @@
 pub mod Back
+pub mod Same

@@ -1,14 +1,28 @@
-ghost use Rattle.std.specs.Prelude.{◌≡◌, ◌≤◌, true, false, length, IfOk};
+ghost use Rattle.std.specs.Prelude.{◌≡◌, ◌≤◌, true, false, length, IfOk, IsTrue, ◌↔◌};
+ghost use Rattle.messages.specs.Written.{without_place};
 ghost use Rattle.messages.specs.Laws.{RoundTrip, LayoutExamples};
 ghost use Rattle.messages.specs.Writing.{encoded, fits, writes, buffer_after};
 ghost use Rattle.messages.specs.Reading.{lacking};
 ghost use Rattle.writer.specs.Values.{values};
 
-use crate::same::same_record;
-use messages::Message;
+use messages::{Message, Part};
 use reader::read;
 use refusals::Ground;
 use writer::write;
+
+/// Whether two messages have the same values, wherever their digits lie.
+fn are_equal(a: Message<&[u8]>, b: Message<&[u8]>) -> bool
+    ensures equal_exactly_if_all_values_agree { IsTrue result ↔ (values a.entry ≡ values b.entry) }
+{
+    a == b
+}
+
+/// Whether what was read is what was written.
+fn is_same(read: Message<Part<'_>>, message: Message<&[u8]>) -> bool
+    ensures same_exactly_if_all_values_agree { IsTrue result ↔ (values (without_place read.entry) ≡ values message.entry) }
+{
+    are_equal(Message::from(read), message)
+}
 
 /// Sees that the octets of a message read back as the same record; no answer is needed, since they do.
 fn see_same(octets: &[u8], message: Message<&[u8]>)
@@ -18,7 +32,7 @@ fn see_same(octets: &[u8], message: Message<&[u8]>)
 {
     match read(octets) {
         Ok(read) => {
-            if !same_record(read, message) {
+            if !is_same(read, message) {
                 unreachable();
             }
         }

@@ -2,6 +2,5 @@
 #![tactic(auto)]
 
 mod checked;
-mod same;
 
 pub use checked::write_checked;

@@ -1501,17 +1501,13 @@ const FROM_SIP: [Row; 73] = [
 ];
 
 fn bare(call: Call, kind: MessageType, cause: Option<Cause>) -> Message<Part<'static>> {
-    let elements = Elements {
-        complete: false,
-        cause,
-        channel: None,
-        progress: None,
-        digits: None,
-    };
     Message {
         reference: call.reference,
         kind,
-        elements,
+        elements: Elements {
+            cause,
+            ..Elements::bare()
+        },
     }
 }
 
@@ -1608,16 +1604,14 @@ const DIALLING: [Dialling; 8] = [
 fn digits_are_collected(rt: HostRuntime) -> Result<(), Fail> {
     for row in &DIALLING {
         let call = from_exchange(ExchangeSide::Collecting, NONE, row.before);
-        let digits = Some(Part {
+        let digits = Part {
             place: 0,
             octets: row.more,
-        });
+        };
         let elements = Elements {
             complete: row.complete,
-            cause: None,
-            channel: None,
-            progress: None,
-            digits,
+            digits: Some(digits),
+            ..Elements::bare()
         };
         let message = Message {
             reference: call.reference,

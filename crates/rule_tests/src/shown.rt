@@ -1,5 +1,6 @@
-//! An effect as one line: where the call then stands, what is reported, and what goes out to the exchange and to SIP.
-use calls::{Digits, ExchangeSide, SipMessage, SipSide, Timer};
+//! An effect as one line: where the call then stands, what is reported, and what goes out to the exchange and to SIP. It is the
+//! rows' own short form, which leaves out what a row does not try; the records' own `Display` would not.
+use calls::{Digits, ExchangeSide, SipMessage, SipSide};
 use messages::{Message, MessageType};
 use moves::Effect;
 use queues::few::Few;
@@ -8,9 +9,11 @@ use std::alloc::{AllocError, Global};
 use std::fmt;
 
 #[derive(Clone, Copy)]
-pub struct EffectText {
-    pub effect: Effect,
-}
+struct EffectText(Effect);
+
+/// What is reported, or a dash where there is nothing.
+#[derive(Clone, Copy)]
+struct OrDash<T>(Option<T>);
 
 fn exchange_name(side: ExchangeSide) -> &'static str {
     match side {
@@ -22,43 +25,23 @@ fn exchange_name(side: ExchangeSide) -> &'static str {
         ExchangeSide::SetupSent => "setup-sent",
         ExchangeSide::ProceedingOutwards => "proceeding-outwards",
         ExchangeSide::Ringing => "ringing",
-        ExchangeSide::DisconnectSent { cause: _ } => "disconnect-sent",
-        ExchangeSide::ReleaseSent { cause: _, repeated } => {
-            if repeated {
-                "release-sent-twice"
-            } else {
-                "release-sent"
-            }
-        }
+        ExchangeSide::DisconnectSent { .. } => "disconnect-sent",
+        ExchangeSide::ReleaseSent { repeated: true, .. } => "release-sent-twice",
+        ExchangeSide::ReleaseSent { .. } => "release-sent",
     }
 }
 
 fn sip_name(side: SipSide) -> &'static str {
     match side {
         SipSide::None => "none",
-        SipSide::InviteSent { told: _ } => "invite-sent",
-        SipSide::InviteUnanswered {
-            transaction: _,
-            dialogue: _,
-        } => "invite-unanswered",
-        SipSide::Up { dialogue: _ } => "up",
+        SipSide::InviteSent { .. } => "invite-sent",
+        SipSide::InviteUnanswered { .. } => "invite-unanswered",
+        SipSide::Up { .. } => "up",
         SipSide::CancelSent => "cancel-sent",
     }
 }
 
-fn timer_name(timer: Option<Timer>) -> &'static str {
-    match timer {
-        None => "-",
-        Some(Timer::T301) => "T301",
-        Some(Timer::T302) => "T302",
-        Some(Timer::T303) => "T303",
-        Some(Timer::T305) => "T305",
-        Some(Timer::T308) => "T308",
-        Some(Timer::T310) => "T310",
-        Some(Timer::T313) => "T313",
-    }
-}
-
+// Stays a match: the type's own `Display` parts its words by spaces, as a line parts its messages.
 fn kind_name(kind: MessageType) -> &'static str {
     match kind {
         MessageType::Alerting => "ALERTING",
@@ -91,34 +74,22 @@ fn show_told<W: fmt::Write>(side: SipSide, f: &mut fmt::Formatter<W>) -> fmt::Re
     Ok(())
 }
 
-fn show_channel<W: fmt::Write>(channel: Option<u8>, f: &mut fmt::Formatter<W>) -> fmt::Result {
-    match channel {
-        None => write!(f, "-"),
-        Some(number) => write!(f, "{number}"),
-    }
-}
-
 fn show_message<W: fmt::Write>(message: Message<Digits>, f: &mut fmt::Formatter<W>) -> fmt::Result {
     let name = kind_name(message.kind);
     let flag = u8::from(message.reference.flag);
-    let number = message.reference.number;
-    write!(f, " {name}:{flag}:{number}")?;
+    write!(f, " {name}:{flag}:{}", message.reference.number)?;
     let elements = message.elements;
     if let Some(cause) = elements.cause {
-        let value = cause.value;
-        let location = cause.location;
-        write!(f, ":cause={value}@{location}")?;
+        write!(f, ":cause={}@{}", cause.value, cause.location)?;
     }
     if let Some(channel) = elements.channel {
-        let number = channel.number;
-        write!(f, ":channel={number}")?;
+        write!(f, ":channel={}", channel.number)?;
     }
     if let Some(description) = elements.progress {
         write!(f, ":progress={description}")?;
     }
     if let Some(digits) = elements.digits {
-        let count = digits.count;
-        write!(f, ":digits={count}")?;
+        write!(f, ":digits={}", digits.count)?;
     }
     Ok(())
 }
@@ -126,8 +97,7 @@ fn show_message<W: fmt::Write>(message: Message<Digits>, f: &mut fmt::Formatter<
 fn show_sip<W: fmt::Write>(message: SipMessage, f: &mut fmt::Formatter<W>) -> fmt::Result {
     match message {
         SipMessage::Invite { number, digits } => {
-            let count = digits.count;
-            write!(f, " INVITE:{number}:digits={count}")
+            write!(f, " INVITE:{number}:digits={}", digits.count)
         }
         SipMessage::Cancel { number } => write!(f, " CANCEL:{number}"),
         SipMessage::Ack { number, dialogue } => write!(f, " ACK:{number}:{dialogue}"),
@@ -139,61 +109,64 @@ fn show_sip<W: fmt::Write>(message: SipMessage, f: &mut fmt::Formatter<W>) -> fm
     }
 }
 
-fn show_sent<W: fmt::Write>(effect: Effect, f: &mut fmt::Formatter<W>) -> fmt::Result {
-    match effect.exchange {
-        Few::Zero => {}
-        Few::One(message) => show_message(message, f)?,
+/// What goes out on one side, each message shown in its turn.
+fn show_few<M: Copy, W: fmt::Write, S: Fn(M, &mut fmt::Formatter<W>) -> fmt::Result>(
+    few: Few<M>,
+    f: &mut fmt::Formatter<W>,
+    show: S,
+) -> fmt::Result
+    requires any_message { S.IsAlwaysCallable show }
+{
+    match few {
+        Few::Zero => Ok(()),
+        Few::One(message) => show(message, f),
         Few::Two(first, second) => {
-            show_message(first, f)?;
-            show_message(second, f)?;
+            show(first, f)?;
+            show(second, f)
         }
     }
-    match effect.sip {
-        Few::Zero => Ok(()),
-        Few::One(message) => show_sip(message, f),
-        Few::Two(first, second) => {
-            show_sip(first, f)?;
-            show_sip(second, f)
+}
+
+impl<T: fmt::Debug> fmt::Display for OrDash<T> {
+    fn fmt<W: fmt::Write>(&self, f: &mut fmt::Formatter<W>) -> fmt::Result {
+        match &self.0 {
+            Some(value) => write!(f, "{value:?}"),
+            None => f.write_str("-"),
         }
     }
 }
 
 impl fmt::Display for EffectText {
     fn fmt<W: fmt::Write>(&self, f: &mut fmt::Formatter<W>) -> fmt::Result {
-        let effect = self.effect;
+        let effect = self.0;
         match effect.after {
-            None => write!(f, "gone")?,
+            None => f.write_str("gone")?,
             Some(call) => {
                 let exchange = exchange_name(call.exchange);
                 let sip = sip_name(call.sip);
-                let channel = call.channel;
-                let digits = call.digits.count;
                 write!(f, "{exchange} {sip}")?;
                 show_told(call.sip, f)?;
-                write!(f, " channel={channel} digits={digits}")?;
+                write!(f, " channel={} digits={}", call.channel, call.digits.count)?;
             }
         }
-        write!(f, " seized=")?;
-        show_channel(effect.seized, f)?;
-        write!(f, " released=")?;
-        show_channel(effect.released, f)?;
-        let timer = timer_name(effect.timer);
-        let cancelling = if effect.cancelling { "yes" } else { "no" };
-        write!(f, " timer={timer} tc={cancelling}")?;
-        show_sent(effect, f)
+        let report = effect.report;
+        let seized = OrDash(report.seized);
+        let released = OrDash(report.released);
+        let timer = OrDash(report.timer);
+        let cancelling = if report.cancelling { "yes" } else { "no" };
+        write!(
+            f,
+            " seized={seized} released={released} timer={timer} tc={cancelling}"
+        )?;
+        show_few(effect.exchange, f, show_message)?;
+        show_few(effect.sip, f, show_sip)
     }
 }
 
 /// The line of an effect, or of a refusal.
 pub fn line_of(heap: Global, ruling: Result<Effect, Ground>) -> Result<String, AllocError> {
     match ruling {
-        Ok(effect) => {
-            let text = EffectText { effect };
-            format!(in heap; "{text}")
-        }
-        Err(ground) => {
-            let number = ground.number();
-            format!(in heap; "refused {number}")
-        }
+        Ok(effect) => format!(in heap; "{}", EffectText(effect)),
+        Err(ground) => format!(in heap; "refused {}", ground.number()),
     }
 }

@@ -1,15 +1,21 @@
 //! SIP events at a call, by the state in which they find it.
 use crate::shown::line_of;
 use crate::stand::*;
-use calls::{ExchangeSide, SipSide, Told};
-use exchange_rules::{begins, is_misdialled};
+use calls::{ExchangeSide, Invite, Response, SipSide, Told};
+use exchange_rules::{DialledSetup, begins};
 use messages::{CallReference, Elements, Message, MessageType, Part};
-use sip_rules::{
-    accepts, dialling_refusal, following, invited, leaves, on_cancel_expiry, on_other,
-};
-use std::alloc::Global;
-use std::process::Abort;
+use sip_rules::{accepts, dialled, following, invited, leaves, on_cancel_expiry, on_other};
 use std::test::Fail;
+
+/// A response to the INVITE with number 77.
+fn responds(status: u16, dialogue: u64, media: bool) -> Response {
+    Response {
+        number: 77,
+        status,
+        dialogue,
+        media,
+    }
+}
 
 /// A provisional response while the INVITE is out: the status, whether there are media, what was told before, and the line.
 struct Provisional {
@@ -280,7 +286,10 @@ fn provisional_responses(rt: HostRuntime) -> Result<(), Fail> {
             SipSide::InviteSent { told: row.told },
             DIALLED,
         );
-        let line = line_of(rt.alloc(), Ok(on_other(row.status, row.media, call)))?;
+        let line = line_of(
+            rt.alloc(),
+            Ok(on_other(responds(row.status, 9, row.media), call)),
+        )?;
         assert_eq!(rt; line.as_str(), row.expected);
     }
     Ok(())
@@ -403,7 +412,10 @@ const ANSWERED: [Answered; 17] = [
 fn refusing_responses(rt: HostRuntime) -> Result<(), Fail> {
     for row in &ANSWERED {
         let call = from_exchange(row.exchange, row.sip, DIALLED);
-        let line = line_of(rt.alloc(), Ok(on_other(row.status, true, call)))?;
+        let line = line_of(
+            rt.alloc(),
+            Ok(on_other(responds(row.status, 9, true), call)),
+        )?;
         assert_eq!(rt; line.as_str(), row.expected);
     }
     Ok(())
@@ -466,7 +478,10 @@ const ACCEPTED: [Accepted; 7] = [
 fn accepting_responses(rt: HostRuntime) -> Result<(), Fail> {
     for row in &ACCEPTED {
         let call = from_exchange(row.exchange, row.sip, DIALLED);
-        let line = line_of(rt.alloc(), Ok(accepts(call, 77, row.dialogue)))?;
+        let line = line_of(
+            rt.alloc(),
+            Ok(accepts(call, responds(200, row.dialogue, true))),
+        )?;
         assert_eq!(rt; line.as_str(), row.expected);
     }
     Ok(())
@@ -513,36 +528,40 @@ fn the_other_end_leaves(rt: HostRuntime) -> Result<(), Fail> {
 
 #[test]
 fn no_answer_to_a_cancel(rt: HostRuntime) -> Result<(), Fail> {
-    let heap = rt.alloc();
-    let line = line_of(
-        heap,
-        on_cancel_expiry(from_exchange(RELEASED_BARE, CANCELLED, DIALLED)),
-    )?;
-    assert_eq!(rt;
-        line.as_str(),
-        "release-sent none channel=7 digits=4 seized=- released=- timer=- tc=no"
-    );
-    let line = line_of(
-        heap,
-        on_cancel_expiry(from_exchange(ExchangeSide::Over, CANCELLED, DIALLED)),
-    )?;
-    assert_eq!(rt; line.as_str(), "gone seized=- released=- timer=- tc=no");
-    let line = line_of(
-        heap,
-        on_cancel_expiry(from_exchange(ExchangeSide::Proceeding, UNTOLD, DIALLED)),
-    )?;
-    assert_eq!(rt; line.as_str(), "refused 22");
-    let line = line_of(
-        heap,
-        on_cancel_expiry(from_exchange(ExchangeSide::Up, TALKING, DIALLED)),
-    )?;
-    assert_eq!(rt; line.as_str(), "refused 22");
+    for (exchange, sip, expected) in [
+        (
+            RELEASED_BARE,
+            CANCELLED,
+            "release-sent none channel=7 digits=4 seized=- released=- timer=- tc=no",
+        ),
+        (
+            ExchangeSide::Over,
+            CANCELLED,
+            "gone seized=- released=- timer=- tc=no",
+        ),
+        (ExchangeSide::Proceeding, UNTOLD, "refused 22"),
+        (ExchangeSide::Up, TALKING, "refused 22"),
+    ] {
+        let call = from_exchange(exchange, sip, DIALLED);
+        let line = line_of(rt.alloc(), on_cancel_expiry(call))?;
+        assert_eq!(rt; line.as_str(), expected);
+    }
     Ok(())
+}
+
+/// An INVITE to these digits.
+fn invite(digits: &[u8]) -> Invite<&[u8]> {
+    Invite {
+        transaction: 3,
+        dialogue: 9,
+        digits,
+    }
 }
 
 #[test]
 fn an_invite_makes_a_call(rt: HostRuntime) -> Result<(), Fail> {
-    let line = line_of(rt.alloc(), Ok(invited(3, 9, b"4171", 7)))?;
+    let invite = dialled(invite(b"4171")).ok().ok_or("no number")?;
+    let line = line_of(rt.alloc(), Ok(invited(invite, 7)))?;
     assert_eq!(rt;
         line.as_str(),
         "setup-sent invite-unanswered channel=7 digits=4 seized=7 released=- timer=T303 tc=no SETUP:0:7:channel=7:digits=4"
@@ -550,93 +569,65 @@ fn an_invite_makes_a_call(rt: HostRuntime) -> Result<(), Fail> {
     Ok(())
 }
 
-/// What a SETUP with these digits makes, where a full number has four.
-fn begun(
-    rt: &impl Abort,
-    heap: Global,
-    complete: bool,
-    octets: &'static [u8],
-) -> Result<String, Fail> {
-    assert!(rt; octets.len() <= 20);
-    let digits = Some(Part { place: 0, octets });
-    let elements = Elements {
-        complete,
-        cause: None,
-        channel: None,
-        progress: None,
-        digits,
-    };
-    let message = Message {
+/// A SETUP with these digits.
+fn setup(complete: bool, octets: &'static [u8]) -> Message<Part<'static>> {
+    Message {
         reference: CallReference {
             flag: false,
             number: 5,
         },
         kind: MessageType::Setup,
-        elements,
-    };
-    Ok(line_of(heap, Ok(begins(4, message, 77, 7)))?)
+        elements: Elements {
+            complete,
+            digits: Some(Part { place: 0, octets }),
+            ..Elements::bare()
+        },
+    }
 }
 
+/// Where a full number has four digits.
 #[test]
 fn a_setup_makes_a_call(rt: HostRuntime) -> Result<(), Fail> {
-    let heap = rt.alloc();
-    let line = begun(&rt, heap, true, b"41")?;
-    assert_eq!(rt;
-        line.as_str(),
-        "proceeding invite-sent channel=7 digits=2 seized=7 released=- timer=- tc=no CALL-PROCEEDING:1:5:channel=7 INVITE:77:digits=2"
-    );
-    let line = begun(&rt, heap, false, b"4171")?;
-    assert_eq!(rt;
-        line.as_str(),
-        "proceeding invite-sent channel=7 digits=4 seized=7 released=- timer=- tc=no CALL-PROCEEDING:1:5:channel=7 INVITE:77:digits=4"
-    );
-    let line = begun(&rt, heap, false, b"417")?;
-    assert_eq!(rt;
-        line.as_str(),
-        "collecting none channel=7 digits=3 seized=7 released=- timer=T302 tc=no SETUP-ACKNOWLEDGE:1:5:channel=7"
-    );
-    let line = begun(&rt, heap, false, b"")?;
-    assert_eq!(rt;
-        line.as_str(),
-        "collecting none channel=7 digits=0 seized=7 released=- timer=T302 tc=no SETUP-ACKNOWLEDGE:1:5:channel=7"
-    );
+    for (message, expected) in [
+        (
+            setup(true, b"41"),
+            "proceeding invite-sent channel=7 digits=2 seized=7 released=- timer=- tc=no CALL-PROCEEDING:1:5:channel=7 INVITE:77:digits=2",
+        ),
+        (
+            setup(false, b"4171"),
+            "proceeding invite-sent channel=7 digits=4 seized=7 released=- timer=- tc=no CALL-PROCEEDING:1:5:channel=7 INVITE:77:digits=4",
+        ),
+        (
+            setup(false, b"417"),
+            "collecting none channel=7 digits=3 seized=7 released=- timer=T302 tc=no SETUP-ACKNOWLEDGE:1:5:channel=7",
+        ),
+        (
+            setup(false, b""),
+            "collecting none channel=7 digits=0 seized=7 released=- timer=T302 tc=no SETUP-ACKNOWLEDGE:1:5:channel=7",
+        ),
+    ] {
+        let dialled = DialledSetup::new(message).ok_or("no number")?;
+        let line = line_of(rt.alloc(), Ok(begins(4, dialled, 77, 7)))?;
+        assert_eq!(rt; line.as_str(), expected);
+    }
     Ok(())
 }
 
 #[test]
 fn digits_of_an_invite(rt: HostRuntime) {
-    assert_eq!(rt; dialling_refusal(b""), Some(484));
-    assert_eq!(rt; dialling_refusal(b"012345678901234567890"), Some(404));
-    assert_eq!(rt; dialling_refusal(b"12a"), Some(404));
-    assert_eq!(rt; dialling_refusal(b"01234567890123456789"), None);
-    assert_eq!(rt; dialling_refusal(b"*#"), None);
-}
-
-fn is_rejected(complete: bool, octets: &'static [u8]) -> bool {
-    let digits = Some(Part { place: 0, octets });
-    let elements = Elements {
-        complete,
-        cause: None,
-        channel: None,
-        progress: None,
-        digits,
-    };
-    is_misdialled(Message {
-        reference: CallReference {
-            flag: false,
-            number: 5,
-        },
-        kind: MessageType::Setup,
-        elements,
-    })
+    assert_eq!(rt; dialled(invite(b"")).err(), Some(484));
+    assert_eq!(rt; dialled(invite(b"012345678901234567890")).err(), Some(404));
+    assert_eq!(rt; dialled(invite(b"12a")).err(), Some(404));
+    assert_eq!(rt; dialled(invite(b"01234567890123456789")).err(), None);
+    assert_eq!(rt; dialled(invite(b"*#")).err(), None);
 }
 
 #[test]
 fn digits_of_a_setup(rt: HostRuntime) {
-    assert!(rt; is_rejected(false, b"012345678901234567890"));
-    assert!(rt; is_rejected(true, b""));
-    assert!(rt; !is_rejected(false, b""));
-    assert!(rt; !is_rejected(true, b"01234567890123456789"));
+    assert!(rt; DialledSetup::new(setup(false, b"012345678901234567890")).is_none());
+    assert!(rt; DialledSetup::new(setup(true, b"")).is_none());
+    assert!(rt; DialledSetup::new(setup(false, b"")).is_some());
+    assert!(rt; DialledSetup::new(setup(true, b"01234567890123456789")).is_some());
 }
 
 #[test]

@@ -46,25 +46,12 @@ fn taken(answer: Answer) -> Option<(MessageType, Option<u8>)> {
     }
 }
 
-/// Nothing waited for SIP.
-fn is_nothing(answer: Answer) -> bool {
-    match answer {
-        Answer::Sip(None) => true,
-        _ => false,
-    }
-}
-
 /// How many calls stand on a channel.
 fn calls_on(gateway: &Gateway<TurnPool>, channel: u8) -> usize {
-    let mut count: usize = 0;
-    for place in 0..64 {
-        if let Some(call) = gateway.call_at(place) {
-            if call.channel == channel {
-                count = count.saturating_add(1);
-            }
-        }
-    }
-    count
+    (0..64)
+        .filter_map(|place| gateway.call_at(place))
+        .filter(|call| call.channel == channel)
+        .count()
 }
 
 #[test]
@@ -74,30 +61,34 @@ fn a_refused_channel_brings_setup_on_another(rt: HostRuntime) -> Result<(), Fail
     let mut exchange = [None; 4];
     let mut sip = [None; 4];
     let pool = TurnPool::new(&[7, 9])?;
-    match open_and_run(3, 1, pool, heap, events.as_slice(), &mut exchange, &mut sip) {
-        Err(_) => Err(Fail::new("not played")),
-        Ok((gateway, answers)) => {
-            assert_eq!(rt; answers.len(), 6);
-            assert!(rt;
-                channels(answers[0]) == Some((Some(7), None)),
-                "the longest idle channel"
-            );
-            assert!(rt;
-                channels(answers[1]) == Some((Some(9), Some(7))),
-                "another in its place"
-            );
-            assert!(rt; taken(answers[2]) == Some((MessageType::Setup, Some(7))));
-            assert!(rt; taken(answers[3]) == Some((MessageType::Setup, Some(9))));
-            assert!(rt; taken(answers[4]) == None, "nothing else was sent");
-            assert!(rt;
-                is_nothing(answers[5]),
-                "no final response while the call goes on"
-            );
-            assert_eq!(rt; calls_on(&gateway, 9), 1);
-            assert_eq!(rt; calls_on(&gateway, 7), 0);
-            Ok(())
-        }
-    }
+    let (gateway, answers) = open_and_run(
+        3,
+        1,
+        pool,
+        heap,
+        events.as_slice(),
+        &mut exchange,
+        &mut sip,
+    )?;
+    assert_eq!(rt; answers.len(), 6);
+    assert!(rt;
+        channels(answers[0]) == Some((Some(7), None)),
+        "the longest idle channel"
+    );
+    assert!(rt;
+        channels(answers[1]) == Some((Some(9), Some(7))),
+        "another in its place"
+    );
+    assert!(rt; taken(answers[2]) == Some((MessageType::Setup, Some(7))));
+    assert!(rt; taken(answers[3]) == Some((MessageType::Setup, Some(9))));
+    assert!(rt; taken(answers[4]) == None, "nothing else was sent");
+    assert!(rt;
+        answers[5] == Answer::Sip(None),
+        "no final response while the call goes on"
+    );
+    assert_eq!(rt; calls_on(&gateway, 9), 1);
+    assert_eq!(rt; calls_on(&gateway, 7), 0);
+    Ok(())
 }
 
 #[test]

@@ -7,18 +7,50 @@ ghost use Rattle.runs.specs.Plays.{Played};
 use crate::drive::run;
 use crate::event::Event;
 use calls::{Answer, Digits, SipMessage};
-use gateway::Gateway;
+use gateway::{Gateway, Outgoing};
 use messages::Message;
 use pools::Pool;
-use queues::queue::Queue;
 use refusals::Ground;
-use std::alloc::Global;
+use std::alloc::{AllocError, Global};
+use std::error::Error;
+use std::fmt;
 
 /// Why no event was played.
-#[derive(Clone, Copy)]
+#[derive(Clone, Copy, PartialEq, Eq, Debug)]
 pub enum NotPlayed {
     Refused(Ground),
     NoMemory,
+}
+
+impl fmt::Display for NotPlayed {
+    fn fmt<W: fmt::Write>(&self, f: &mut fmt::Formatter<W>) -> fmt::Result {
+        match self {
+            NotPlayed::Refused(ground) => { write!(f, "refused {}: {ground}", ground.number()) }
+            NotPlayed::NoMemory => f.write_str("no memory for the answers"),
+        }
+    }
+}
+
+impl Error for NotPlayed {}
+
+impl From<Ground> for NotPlayed {
+    ghost use Rattle.runs.specs.declared.play.NotPlayed.{NotPlayed};
+
+    ghost from_gives = { λ why e. e ≡ NotPlayed.Refused why };
+
+    fn from(ground: Ground) -> Self {
+        Self::Refused(ground)
+    }
+}
+
+impl From<AllocError> for NotPlayed {
+    ghost use Rattle.runs.specs.declared.play.NotPlayed.{NotPlayed};
+
+    ghost from_gives = { λ _ e. e ≡ NotPlayed.NoMemory };
+
+    fn from(_error: AllocError) -> Self {
+        Self::NoMemory
+    }
 }
 
 /// A gateway is opened over a pool, with empty queues in the lent places, and run on the events. What still waits at the end
@@ -42,14 +74,8 @@ pub fn open_and_run<P: Pool + Drop>(
         (λ _. Unit {0})
         (λ e. elim e [ NotPlayed.Refused why ↦ (exchange_places.new ≡ exchange_places.old) × (sip_places.new ≡ sip_places.old) | NotPlayed.NoMemory ↦ Unit {0} ]) }
 {
-    let mut gateway = match Gateway::open(full, first, pool) {
-        Ok(gateway) => gateway,
-        Err(ground) => return Err(NotPlayed::Refused(ground)),
-    };
-    let mut exchange = Queue::new(exchange_places);
-    let mut sip = Queue::new(sip_places);
-    match run(&mut gateway, heap, events, &mut exchange, &mut sip) {
-        Ok(answers) => Ok((gateway, answers)),
-        Err(_) => Err(NotPlayed::NoMemory),
-    }
+    let mut gateway = Gateway::open(full, first, pool)?;
+    let mut queues = Outgoing::new(exchange_places, sip_places);
+    let answers = run(&mut gateway, heap, events, &mut queues)?;
+    Ok((gateway, answers))
 }

@@ -1,6 +1,6 @@
 //! The side of the exchange.
 ghost use Rattle.std.specs.Prelude.{◌≡◌};
-ghost use Rattle.calls.specs.Words.{is_over, is_uncleared, is_unreleased, timer_of, timer_name, is_running, sent_cause, is_repeated};
+ghost use Rattle.calls.specs.Words.{is_over, is_uncleared, is_unreleased, timer_of, is_running, sent_cause, is_repeated};
 
 use calls::{ExchangeSide, Timer};
 use messages::Cause;
@@ -9,32 +9,24 @@ use messages::Cause;
 pub fn is_over(side: ExchangeSide) -> bool
     ensures over_alone { result ≡ is_over side }
 {
-    matches!(side, ExchangeSide::Over)
+    side == ExchangeSide::Over
 }
 
 /// Neither end clears yet, so that DISCONNECT can be sent.
 pub fn is_uncleared(side: ExchangeSide) -> bool
     ensures neither_over_nor_clearing { result ≡ is_uncleared side }
 {
-    match side {
-        ExchangeSide::Over => false,
-        ExchangeSide::DisconnectSent { cause: _ } => false,
-        ExchangeSide::ReleaseSent {
-            cause: _,
-            repeated: _,
-        } => false,
-        _ => true,
-    }
+    !matches!(
+        side,
+        ExchangeSide::Over | ExchangeSide::DisconnectSent { .. } | ExchangeSide::ReleaseSent { .. }
+    )
 }
 
 /// The side is not over, and no RELEASE went out.
 pub fn is_unreleased(side: ExchangeSide) -> bool
     ensures neither_over_nor_releasing { result ≡ is_unreleased side }
 {
-    match side {
-        ExchangeSide::DisconnectSent { cause: _ } => true,
-        other => is_uncleared(other),
-    }
+    is_uncleared(side) || matches!(side, ExchangeSide::DisconnectSent { .. })
 }
 
 /// The timer that runs in a state.
@@ -42,34 +34,14 @@ pub fn timer_of(side: ExchangeSide) -> Option<Timer>
     ensures timer_of_the_state { result ≡ timer_of side }
 {
     match side {
-        ExchangeSide::Over => None,
+        ExchangeSide::Over | ExchangeSide::Proceeding | ExchangeSide::Up => None,
         ExchangeSide::Collecting => Some(Timer::T302),
-        ExchangeSide::Proceeding => None,
         ExchangeSide::ConnectSent => Some(Timer::T313),
-        ExchangeSide::Up => None,
         ExchangeSide::SetupSent => Some(Timer::T303),
         ExchangeSide::ProceedingOutwards => Some(Timer::T310),
         ExchangeSide::Ringing => Some(Timer::T301),
-        ExchangeSide::DisconnectSent { cause: _ } => Some(Timer::T305),
-        ExchangeSide::ReleaseSent {
-            cause: _,
-            repeated: _,
-        } => Some(Timer::T308),
-    }
-}
-
-/// The last two digits of a timer's name.
-fn timer_name(timer: Timer) -> u8
-    ensures digits_of_the_name { result ≡ timer_name timer }
-{
-    match timer {
-        Timer::T301 => 1,
-        Timer::T302 => 2,
-        Timer::T303 => 3,
-        Timer::T305 => 5,
-        Timer::T308 => 8,
-        Timer::T310 => 10,
-        Timer::T313 => 13,
+        ExchangeSide::DisconnectSent { .. } => Some(Timer::T305),
+        ExchangeSide::ReleaseSent { .. } => Some(Timer::T308),
     }
 }
 
@@ -77,10 +49,7 @@ fn timer_name(timer: Timer) -> u8
 pub fn is_running(timer: Timer, side: ExchangeSide) -> bool
     ensures the_timer_of_the_state { result ≡ is_running timer side }
 {
-    match timer_of(side) {
-        Some(running) => timer_name(running) == timer_name(timer),
-        None => false,
-    }
+    timer_of(side) == Some(timer)
 }
 
 /// The cause that went out with the DISCONNECT or the RELEASE.
@@ -89,7 +58,7 @@ pub fn sent_cause(side: ExchangeSide) -> Option<Cause>
 {
     match side {
         ExchangeSide::DisconnectSent { cause } => Some(cause),
-        ExchangeSide::ReleaseSent { cause, repeated: _ } => cause,
+        ExchangeSide::ReleaseSent { cause, .. } => cause,
         _ => None,
     }
 }
@@ -98,8 +67,5 @@ pub fn sent_cause(side: ExchangeSide) -> Option<Cause>
 pub fn is_repeated(side: ExchangeSide) -> bool
     ensures release_sent_twice { result ≡ is_repeated side }
 {
-    match side {
-        ExchangeSide::ReleaseSent { cause: _, repeated } => repeated,
-        _ => false,
-    }
+    matches!(side, ExchangeSide::ReleaseSent { repeated: true, .. })
 }

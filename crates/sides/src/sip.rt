@@ -9,31 +9,21 @@ use calls::{Call, SipSide};
 pub fn is_no_sip(side: SipSide) -> bool
     ensures nothing_on_sip { result ≡ is_no_sip side }
 {
-    matches!(side, SipSide::None)
+    side == SipSide::None
 }
 
 /// An INVITE of the gateway's own is out, and no final response came to it.
 pub fn awaits_response(side: SipSide) -> bool
     ensures invite_out_or_cancelled { result ≡ awaits_response side }
 {
-    match side {
-        SipSide::InviteSent { told: _ } => true,
-        SipSide::CancelSent => true,
-        _ => false,
-    }
+    matches!(side, SipSide::InviteSent { .. } | SipSide::CancelSent)
 }
 
 /// Whether the INVITE with this transaction came and has no final response yet.
 pub fn is_unanswered(transaction: u64, side: SipSide) -> bool
     ensures that_invite_is_open { result ≡ is_unanswered transaction side }
 {
-    match side {
-        SipSide::InviteUnanswered {
-            transaction: known,
-            dialogue: _,
-        } => known == transaction,
-        _ => false,
-    }
+    matches!(side, SipSide::InviteUnanswered { transaction: known, .. } if known == transaction)
 }
 
 /// Whether the dialogue is this side's: from the INVITE that came, or from the 200, on.
@@ -42,10 +32,10 @@ pub fn is_held_by(dialogue: u64, side: SipSide) -> bool
 {
     match side {
         SipSide::InviteUnanswered {
-            transaction: _,
             dialogue: known,
-        } => known == dialogue,
-        SipSide::Up { dialogue: known } => known == dialogue,
+            ..
+        }
+        | SipSide::Up { dialogue: known } => known == dialogue,
         _ => false,
     }
 }

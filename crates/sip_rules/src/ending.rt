@@ -25,14 +25,13 @@ pub fn leaves(call: Call) -> Effect
 pub fn on_cancel_expiry(call: Call) -> Result<Effect, Ground>
     ensures over_where_cancelled { ruling_of result ≡ on_cancel_expiry call }
 {
-    match call.sip {
-        SipSide::CancelSent => {
-            Ok(moved(
-                call,
-                stays(call, Few::Zero),
-                becomes(SipSide::None, Few::Zero),
-            ))
-        }
-        _ => Err(Ground::TimerNotRunning),
+    if call.sip == SipSide::CancelSent {
+        Ok(moved(
+            call,
+            stays(call, Few::Zero),
+            becomes(SipSide::None, Few::Zero),
+        ))
+    } else {
+        Err(Ground::TimerNotRunning)
     }
 }

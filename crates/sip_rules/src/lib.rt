@@ -9,6 +9,6 @@ mod response;
 mod ringing;
 
 pub use ending::{leaves, on_cancel_expiry};
-pub use invite::{dialling_refusal, invited};
+pub use invite::{dialled, invited};
 pub use number::following;
-pub use response::{accepts, ack_and_bye, on_other};
+pub use response::{accepts, ack, ack_and_bye, on_other};

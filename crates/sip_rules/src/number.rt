@@ -2,21 +2,13 @@
 ghost use Rattle.std.specs.Prelude.{◌≡◌};
 ghost use Rattle.calls.specs.Rules.{following as next_one};
 
-/// The last number that there is.
-const LAST: u64 = 18_446_744_073_709_551_615;
-
 /// The number of the next call, after a step that used up one or did not. None is used twice: after the last there is none.
 pub fn following(numbered: bool, next: Option<u64>) -> Option<u64>
     ensures one_more_until_the_last { result ≡ next_one numbered next }
 {
-    match next {
-        Some(number) if numbered => {
-            if number < LAST {
-                Some(number + 1)
-            } else {
-                None
-            }
-        }
-        other => other,
+    if numbered {
+        next.and_then(|number| number.checked_add(1))
+    } else {
+        next
     }
 }

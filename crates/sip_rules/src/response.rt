@@ -6,7 +6,7 @@ ghost use Rattle.calls.specs.Rules.{on_other};
 ghost use Rattle.moves.specs.Moves.{effect_of};
 
 use crate::ringing::provisional;
-use calls::{Call, ExchangeSide, SipMessage, SipSide};
+use calls::{Call, ExchangeSide, Response, SipMessage, SipSide};
 use messages::{Cause, MessageType};
 use moves::{Effect, becomes, cause_for, clears_exchange, enters, moved, stays, tell};
 use queues::few::Few;
@@ -18,41 +18,45 @@ const FIRST_REFUSAL: u16 = 300;
 fn fails(call: Call, cause: Cause) -> Effect
     ensures cleared_unless_cancelled { effect_of result ≡ failing call cause }
 {
-    match call.sip {
-        SipSide::InviteSent { told: _ } => {
-            moved(
-                call,
-                clears_exchange(call, cause),
-                becomes(SipSide::None, Few::Zero),
-            )
-        }
-        _ => moved(
-            call,
-            stays(call, Few::Zero),
-            becomes(SipSide::None, Few::Zero),
-        ),
+    let exchange = match call.sip {
+        SipSide::InviteSent { .. } => clears_exchange(call, cause),
+        _ => stays(call, Few::Zero),
+    };
+    moved(call, exchange, becomes(SipSide::None, Few::Zero))
+}
+
+/// The ACK of a 200.
+pub fn ack(response: Response) -> SipMessage
+    ensures by_number_and_dialogue { result ≡ SipMessage.Ack response.number response.dialogue }
+{
+    SipMessage::Ack {
+        number: response.number,
+        dialogue: response.dialogue,
     }
 }
 
 /// A 200 that is not wanted is acknowledged and ended.
-pub fn ack_and_bye(number: u64, dialogue: u64) -> Few<SipMessage>
-    ensures acknowledged_and_ended { listed result ≡ ack_and_bye number dialogue }
+pub fn ack_and_bye(response: Response) -> Few<SipMessage>
+    ensures acknowledged_and_ended { listed result ≡ ack_and_bye response.number response.dialogue }
 {
-    let ack = SipMessage::Ack { number, dialogue };
-    let bye = SipMessage::Bye { dialogue };
-    Few::Two(ack, bye)
+    let bye = SipMessage::Bye {
+        dialogue: response.dialogue,
+    };
+    Few::Two(ack(response), bye)
 }
 
 /// The INVITE is answered: CONNECT to the exchange, ACK to SIP.
-fn connects(call: Call, number: u64, dialogue: u64) -> Effect
-    ensures connect_and_ack { effect_of result ≡ accepting call number dialogue (SipSide.InviteSent untold) }
+fn connects(call: Call, response: Response) -> Effect
+    ensures connect_and_ack { effect_of result ≡ accepting call response.number response.dialogue (SipSide.InviteSent untold) }
 {
     let connect = tell(MessageType::Connect, call);
-    let ack = SipMessage::Ack { number, dialogue };
+    let up = SipSide::Up {
+        dialogue: response.dialogue,
+    };
     moved(
         call,
         enters(call, ExchangeSide::ConnectSent, Few::One(connect)),
-        becomes(SipSide::Up { dialogue }, Few::One(ack)),
+        becomes(up, Few::One(ack(response))),
     )
 }
 
@@ -65,20 +69,16 @@ fn acknowledges(call: Call, side: SipSide, sent: Few<SipMessage>) -> Effect
 
 /// A 200 on a dialogue: the call's own INVITE is answered; or it is the 200 that the call is up by, once more; or it is not
 /// wanted, since CANCEL went out or the call is up by another.
-pub fn accepts(call: Call, number: u64, dialogue: u64) -> Effect
-    ensures answered_or_ended { effect_of result ≡ accepting call number dialogue call.sip }
+pub fn accepts(call: Call, response: Response) -> Effect
+    ensures answered_or_ended { effect_of result ≡ accepting call response.number response.dialogue call.sip }
 {
     match call.sip {
-        SipSide::InviteSent { told: _ } => connects(call, number, dialogue),
-        SipSide::Up { dialogue: known } if known == dialogue => {
-            acknowledges(
-                call,
-                call.sip,
-                Few::One(SipMessage::Ack { number, dialogue }),
-            )
+        SipSide::InviteSent { .. } => connects(call, response),
+        SipSide::Up { dialogue } if dialogue == response.dialogue => {
+            acknowledges(call, call.sip, Few::One(ack(response)))
         }
-        SipSide::CancelSent => acknowledges(call, SipSide::None, ack_and_bye(number, dialogue)),
-        _ => acknowledges(call, call.sip, ack_and_bye(number, dialogue)),
+        SipSide::CancelSent => acknowledges(call, SipSide::None, ack_and_bye(response)),
+        _ => acknowledges(call, call.sip, ack_and_bye(response)),
     }
 }
 
@@ -90,12 +90,12 @@ fn is_refusal(status: u16) -> bool
 }
 
 /// A provisional response, or a final one that refuses.
-pub fn on_other(status: u16, media: bool, call: Call) -> Effect
-    ensures ringing_or_refused { Does (effect_of result) ≡ on_other status media call }
+pub fn on_other(response: Response, call: Call) -> Effect
+    ensures ringing_or_refused { Does (effect_of result) ≡ on_other response.status response.media call }
 {
-    if is_refusal(status) {
-        fails(call, cause_for(status))
+    if is_refusal(response.status) {
+        fails(call, cause_for(response.status))
     } else {
-        provisional(call, status, media)
+        provisional(call, response)
     }
 }

@@ -2,10 +2,9 @@
 ghost use Rattle.std.specs.Prelude.{◌≡◌, Some};
 ghost use Rattle.calls.specs.Effects.{rests as resting, announces as announcing, alerts as alerting, rings as ringing, tell_progress, provisional as on_provisional};
 ghost use Rattle.moves.specs.Moves.{effect_of};
-ghost use Rattle.sip_rules.specs.Hearing.{spread};
 
 use crate::news::{News, news_of};
-use calls::{Call, Digits, SipSide, Told};
+use calls::{Call, Digits, Response, SipSide, Told};
 use messages::{Message, MessageType};
 use moves::{Effect, becomes, keeps, moved, stays, tell_progress};
 use queues::few::Few;
@@ -38,15 +37,13 @@ fn announces(call: Call, message: Message<Digits>, told: Told) -> Effect
 fn alerts(call: Call, told: Told, media: bool) -> Effect
     ensures alerting_by_the_media { effect_of result ≡ alerting call told media }
 {
-    let description = if media { Some(INBAND) } else { None };
-    let message = tell_progress(MessageType::Alerting, call, description);
+    let message = tell_progress(MessageType::Alerting, call, media.then_some(INBAND));
     announces(
         call,
         message,
         Told {
             alerting: true,
-            interworking: told.interworking,
-            inband: told.inband,
+            ..told
         },
     )
 }
@@ -62,47 +59,38 @@ fn tells(call: Call, description: u8, told: Told) -> Effect
     )
 }
 
-/// The news goes to the exchange, and is kept in mind.
-fn spreads(call: Call, media: bool, told: Told, news: News) -> Effect
-    ensures told_and_kept_in_mind { effect_of result ≡ spread call media told news }
+/// A provisional response while the INVITE is out: its news goes to the exchange, and is kept in mind.
+fn rings(call: Call, response: Response, told: Told) -> Effect
+    ensures told_by_status_and_media { effect_of result ≡ ringing call response.status response.media told }
 {
-    match news {
-        News::Nothing => rests(call),
-        News::Alerting => alerts(call, told, media),
-        News::Inband => tells(
+    match news_of(response, told) {
+        None => rests(call),
+        Some(News::Alerting) => alerts(call, told, response.media),
+        Some(News::Inband) => tells(
             call,
             INBAND,
             Told {
-                alerting: told.alerting,
-                interworking: told.interworking,
                 inband: true,
+                ..told
             },
         ),
-        News::Interworking => tells(
+        Some(News::Interworking) => tells(
             call,
             INTERWORKING,
             Told {
-                alerting: told.alerting,
                 interworking: true,
-                inband: told.inband,
+                ..told
             },
         ),
     }
 }
 
-/// A provisional response while the INVITE is out.
-fn rings(call: Call, status: u16, media: bool, told: Told) -> Effect
-    ensures told_by_status_and_media { effect_of result ≡ ringing call status media told }
-{
-    spreads(call, media, told, news_of(status, media, told))
-}
-
 /// A provisional response; while CANCEL is out it is taken, and nothing is sent.
-pub fn provisional(call: Call, status: u16, media: bool) -> Effect
-    ensures told_while_the_invite_is_out { effect_of result ≡ on_provisional call status media call.sip }
+pub fn provisional(call: Call, response: Response) -> Effect
+    ensures told_while_the_invite_is_out { effect_of result ≡ on_provisional call response.status response.media call.sip }
 {
     match call.sip {
-        SipSide::InviteSent { told } => rings(call, status, media, told),
+        SipSide::InviteSent { told } => rings(call, response, told),
         _ => rests(call),
     }
 }

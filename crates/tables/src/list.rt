@@ -1,7 +1,10 @@
 // The text of the list of expected answers.
-use anyhow::anyhow;
 use expectations::entry::{CauseEntry, StatusEntry};
+use messages::Cause;
 use std::alloc::Global;
+use std::num::ParseIntError;
+use std::str::FromStr;
+use thiserror::Error;
 
 #[derive(Drop)]
 pub struct List {
@@ -9,71 +12,66 @@ pub struct List {
     pub statuses: Vec<StatusEntry>,
 }
 
-// What a line of the text says.
-pub enum Line {
-    Nothing,
-    Cause(CauseEntry),
-    Status(StatusEntry),
-    Unreadable,
-}
+#[derive(Debug, Drop, Error)]
+#[error("a line of the list is no entry")]
+pub struct NotAnEntry;
 
-// One number, or the first and the last of several as in `100-599`.
-fn numbers(word: &str) -> Option<(u16, u16)> {
-    match word.split_once('-') {
-        Some((first, last)) => Some((first.parse::<u16>().ok()?, last.parse::<u16>().ok()?)),
-        None => {
-            let only = word.parse::<u16>().ok()?;
-            Some((only, only))
-        }
+impl From<ParseIntError> for NotAnEntry {
+    fn from(_: ParseIntError) -> Self {
+        NotAnEntry
     }
 }
 
+// One number, or the first and the last of several as in `100-599`.
+fn numbers<T: FromStr<Err = ParseIntError> + Drop>(word: &str) -> Result<(T, T), ParseIntError> {
+    let (first, last) = word.split_once('-').unwrap_or((word, word));
+    Ok((first.parse()?, last.parse()?))
+}
+
 // What stands behind `cause`: `17 at any gives 486`, `21 at 0 gives 603`.
-fn cause_entry(words: &[&str]) -> Option<CauseEntry> {
+fn cause_entry(words: &[&str]) -> Result<CauseEntry, NotAnEntry> {
     let [causes, "at", place, "gives", status] = words else {
-        return None;
+        return Err(NotAnEntry);
     };
     let (first, last) = numbers(causes)?;
-    let location = if *place == "any" {
-        None
-    } else {
-        Some(place.parse::<u8>().ok()?)
+    let location = match *place {
+        "any" => None,
+        number => Some(number.parse()?),
     };
-    Some(CauseEntry {
-        first: u8::try_from(first).ok()?,
-        last: u8::try_from(last).ok()?,
+    Ok(CauseEntry {
+        first,
+        last,
         location,
-        status: status.parse::<u16>().ok()?,
+        status: status.parse()?,
     })
 }
 
 // What stands behind `status`: `486 gives 17 at 5`.
-fn status_entry(words: &[&str]) -> Option<StatusEntry> {
-    let [statuses, "gives", cause, "at", location] = words else {
-        return None;
+fn status_entry(words: &[&str]) -> Result<StatusEntry, NotAnEntry> {
+    let [statuses, "gives", value, "at", location] = words else {
+        return Err(NotAnEntry);
     };
     let (first, last) = numbers(statuses)?;
-    Some(StatusEntry {
+    Ok(StatusEntry {
         first,
         last,
-        cause: cause.parse::<u8>().ok()?,
-        location: location.parse::<u8>().ok()?,
+        cause: Cause {
+            value: value.parse()?,
+            location: location.parse()?,
+        },
     })
 }
 
-// A line is empty, a comment behind `#`, or an entry.
-fn meaning(words: &[&str]) -> Line {
-    match words {
-        [] | ["#", ..] => Line::Nothing,
-        ["cause", rest @ ..] => match cause_entry(rest) {
-            Some(entry) => Line::Cause(entry),
-            None => Line::Unreadable,
-        },
-        ["status", rest @ ..] => match status_entry(rest) {
-            Some(entry) => Line::Status(entry),
-            None => Line::Unreadable,
-        },
-        _ => Line::Unreadable,
+impl List {
+    // A line is empty, a comment behind `#`, or an entry.
+    fn take(&mut self, line: &[&str]) -> anyhow::Result<()> {
+        match line {
+            [] | ["#", ..] => {}
+            ["cause", rest @ ..] => self.causes.push(cause_entry(rest)?)?,
+            ["status", rest @ ..] => self.statuses.push(status_entry(rest)?)?,
+            _ => return Err(NotAnEntry.into()),
+        }
+        Ok(())
     }
 }
 
@@ -82,14 +80,9 @@ pub fn read(heap: Global, text: &str) -> anyhow::Result<List> {
         causes: Vec::new(heap),
         statuses: Vec::new(heap),
     };
-    for written in text.lines() {
-        let words: Vec<&str> = written.split_ascii_whitespace().collect(heap)?;
-        match meaning(&words) {
-            Line::Nothing => {}
-            Line::Cause(entry) => list.causes.push(entry)?,
-            Line::Status(entry) => list.statuses.push(entry)?,
-            Line::Unreadable => return Err(anyhow!("a line of the list is no entry")),
-        }
+    for line in text.lines() {
+        let words: Vec<&str> = line.split_ascii_whitespace().collect(heap)?;
+        list.take(&words)?;
     }
     Ok(list)
 }

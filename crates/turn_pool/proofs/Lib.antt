@@ -1,4 +1,3 @@
 pub mod Counts
 pub mod Listings
-pub mod Rows
 pub mod Transfers

@@ -1,5 +1,4 @@
 pub mod Lists
-pub mod Rows
 pub mod Listing
 pub mod Moves
 pub mod Turns

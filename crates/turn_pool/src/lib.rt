@@ -3,8 +3,6 @@
 
 mod listing;
 mod moves;
-mod row;
-mod row_edits;
 mod turns;
 
 ghost use Rattle.std.specs.Prelude.{◌≡◌, ℕ, [], ◌∷◌, ◌++◌, IfOk, if◌then◌else◌, MatchResult};
@@ -17,7 +15,7 @@ ghost use Rattle.std.proofs.Common.{rules, arith};
 
 use crate::listing::fits;
 use crate::moves::move_channel;
-use crate::row::Row;
+use arrayvec::ArrayVec;
 use pools::Pool;
 use refusals::Ground;
 pub use turns::TurnPool;
@@ -30,8 +28,9 @@ impl TurnPool {
     {
         if fits(list) {
             Ok(TurnPool {
-                idle: Row::of(list),
-                seized: Row::of(&[]),
+                // There is room: a list that fits has at most 64 channels.
+                idle: ArrayVec::try_from(list).unwrap(),
+                seized: ArrayVec::new(),
             })
         } else {
             Err(Ground::SettingOutOfRange)
@@ -56,8 +55,9 @@ impl Pool for TurnPool {
         Self::LARGEST
     }
 
+    #[tactic(auto, using(crate::proofs::Counts::times_any))]
     fn is_idle(&self, c: u8) -> bool {
-        self.idle.contains(c)
+        self.idle.contains(&c)
     }
 
     fn seize(&mut self, c: u8) -> bool
@@ -74,13 +74,9 @@ impl Pool for TurnPool {
         ensures takes_the_longest_idle { result ≡ first (idle_order self.old) }
         ensures the_others_wait_on_in_order { idle_order self.new ≡ rest (idle_order self.old) }
     {
-        match self.idle.first() {
-            Some(c) => {
-                let _ = self.seize(c);
-                Some(c)
-            }
-            None => None,
-        }
+        let c = *self.idle.first()?;
+        self.seize(c);
+        Some(c)
     }
 
     fn release(&mut self, c: u8) -> bool

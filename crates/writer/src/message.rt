@@ -1,6 +1,6 @@
 ghost use Rattle.std.specs.Prelude.{◌≡◌, ◌≤◌, true, ◌++◌, length, drop, IfOk};
-ghost use Rattle.messages.specs.Writing.{encoded, cause_fits, channel_fits, progress_fits, digits_fit, writes, buffer_after};
-ghost use Rattle.writer.specs.Values.{values_of, values, sizes};
+ghost use Rattle.messages.specs.Writing.{encoded, fits, writes, buffer_after};
+ghost use Rattle.writer.specs.Values.{values, sizes};
 
 use crate::parts::{
     put_bearer, put_cause, put_channel, put_complete, put_digits, put_header, put_progress,
@@ -12,11 +12,7 @@ use refusals::Ground;
 
 /// Writes a message that is known to fit: each element is lent the buffer behind the octets already written.
 fn put_message(buffer: &mut [u8], message: Message<&[u8]>) -> usize
-    requires reference { message.reference.number ≤ 32767 }
-    requires cause { cause_fits message.elements.cause ≡ true }
-    requires channel { channel_fits message.elements.channel ≡ true }
-    requires progress { progress_fits message.elements.progress ≡ true }
-    requires digits { digits_fit (values_of message.elements.digits) ≡ true }
+    requires in_range { fits (values message) ≡ true }
     requires room { sizes (values message) ≤ length buffer.old }
     ensures after { buffer.new ≡ encoded (values message.entry) ++ drop result buffer.old }
     ensures size { result ≡ length (encoded (values message.entry)) }

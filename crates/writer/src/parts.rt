@@ -1,4 +1,5 @@
 //! Each element in its turn: nothing where it is absent, else the element at the front of the part that is lent.
+// Stays one function for each element: a closure's caller does not learn what the closure left in the part that it was lent.
 ghost use Rattle.std.specs.Prelude.{◌≡◌, ◌+◌, ◌<◌, ◌≤◌, true, ◌∷◌, ◌++◌, length, drop};
 ghost use Rattle.messages.specs.Writing.{element, head_octets, complete_octets, bearer_octets, cause_octets, channel_octets, progress_octets, digits_octets, cause_fits, channel_fits, progress_fits, digits_fit};
 ghost use Rattle.writer.specs.Values.{values_of};
@@ -13,10 +14,7 @@ fn put_element(part: &mut [u8], id: u8, first: u8, rest: &[u8]) -> usize
     ensures after { part.new ≡ element id (first ∷ rest.now) ++ drop result part.old }
     ensures size { result ≡ 3 + length rest.now }
 {
-    match write_element(part, id, first, rest) {
-        Ok(size) => size,
-        Err(_) => unreachable(),
-    }
+    write_element(part, id, first, rest).unwrap()
 }
 
 /// The five octets with which every message begins.
@@ -30,7 +28,7 @@ pub fn put_header(buffer: &mut [u8], reference: CallReference, kind: MessageType
     buffer[1] = 0x02;
     buffer[2] = flag + (reference.number / 256) as u8;
     buffer[3] = (reference.number % 256) as u8;
-    buffer[4] = kind.code();
+    buffer[4] = u8::from(kind);
 }
 
 pub fn put_complete(part: &mut [u8], complete: bool) -> usize
@@ -62,10 +60,10 @@ pub fn put_cause(part: &mut [u8], cause: Option<Cause>) -> usize
     ensures after { part.new ≡ cause_octets cause ++ drop result part.old }
     ensures size { result ≡ length (cause_octets cause) }
 {
-    match cause {
-        None => 0,
-        Some(cause) => put_element(part, 0x08, 0x80 + cause.location, &[0x80 + cause.value]),
-    }
+    let Some(cause) = cause else {
+        return 0;
+    };
+    put_element(part, 0x08, 0x80 + cause.location, &[0x80 + cause.value])
 }
 
 pub fn put_channel(part: &mut [u8], channel: Option<Channel>) -> usize
@@ -74,13 +72,11 @@ pub fn put_channel(part: &mut [u8], channel: Option<Channel>) -> usize
     ensures after { part.new ≡ channel_octets channel ++ drop result part.old }
     ensures size { result ≡ length (channel_octets channel) }
 {
-    match channel {
-        None => 0,
-        Some(channel) => {
-            let wish = if channel.exclusive { 0xa9 } else { 0xa1 };
-            put_element(part, 0x18, wish, &[0x83, 0x80 + channel.number])
-        }
-    }
+    let Some(channel) = channel else {
+        return 0;
+    };
+    let wish = if channel.exclusive { 0xa9 } else { 0xa1 };
+    put_element(part, 0x18, wish, &[0x83, 0x80 + channel.number])
 }
 
 pub fn put_progress(part: &mut [u8], progress: Option<u8>) -> usize
@@ -89,10 +85,10 @@ pub fn put_progress(part: &mut [u8], progress: Option<u8>) -> usize
     ensures after { part.new ≡ progress_octets progress ++ drop result part.old }
     ensures size { result ≡ length (progress_octets progress) }
 {
-    match progress {
-        None => 0,
-        Some(description) => put_element(part, 0x1e, 0x81, &[0x80 + description]),
-    }
+    let Some(description) = progress else {
+        return 0;
+    };
+    put_element(part, 0x1e, 0x81, &[0x80 + description])
 }
 
 pub fn put_digits(part: &mut [u8], digits: Option<&[u8]>) -> usize
@@ -101,8 +97,8 @@ pub fn put_digits(part: &mut [u8], digits: Option<&[u8]>) -> usize
     ensures after { part.new ≡ digits_octets (values_of digits.entry) ++ drop result part.old }
     ensures size { result ≡ length (digits_octets (values_of digits.entry)) }
 {
-    match digits {
-        None => 0,
-        Some(digits) => put_element(part, 0x70, 0x80, digits),
-    }
+    let Some(digits) = digits else {
+        return 0;
+    };
+    put_element(part, 0x70, 0x80, digits)
 }

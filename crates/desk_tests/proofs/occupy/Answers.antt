@@ -4,7 +4,7 @@ use Rattle.desk_tests.proofs.occupy.Goals as goal
 
 pub returns-in-Err : goal.returns-in-Err
 returns-in-Err g c =
-    let wish = c.in-Some.ensures in
+    let wish = c.in_ok-token.ensures in
     let entry = c.in-Err.ensures in
     let free = admitted_if_free c.args.table.now.places c.args.place _ _ _ c.call_on.ensures.collects_on_that_channel c.channel-channel.ensures.answers_its_channel in
     let back = handed_back _ _ _ _ _ _ c.args.place _ free entry.handed_back_exactly_if_not_admitted entry.entered_at_that_place_alone in

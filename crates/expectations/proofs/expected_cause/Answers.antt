@@ -1,17 +1,14 @@
--- Each entry that the search reads has the answer or leaves it to the entries behind it.
-use Rattle.std.proofs.Common.{sym}
+-- The entry that is found is the first that fits.
+use Rattle.std.proofs.Common.{rules, tests}
+use Rattle.std.proofs.lemmas.Iterator.{YieldsList-from_slice}
+use Rattle.std.proofs.lemmas.Iterator.Search.{find_from_yields_List}
+use Rattle.expectations.specs.declared.entry.StatusEntry.{StatusEntry}
 use Rattle.expectations.specs.Fits.{status_fits}
-use Rattle.expectations.proofs.First.{hit, miss, ended}
+use Rattle.expectations.proofs.First.{found_first}
 use Rattle.expectations.proofs.expected_cause.Goals as goal
-
-pub returns-then-fits : goal.returns-then-fits
-returns-then-fits c =
-    record { first_that_fits = hit (λ e. status_fits e c.args.status) (λ e. (e.cause, e.location)) c.args.entries.now c.loop-entry.entry-index c.loop-entry.invariant _ c.loop-entry-test.true (sym c.if-fits.ensures.inside) }
-
-pub loop-entry-preserved : goal.loop-entry-preserved
-loop-entry-preserved c =
-    miss (λ e. status_fits e c.args.status) (λ e. (e.cause, e.location)) c.args.entries.now c.loop-entry.entry-index c.loop-entry.invariant _ c.loop-entry-test.true (sym c.if-fits.ensures.inside)
 
 pub returns : goal.returns
 returns c =
-    record { first_that_fits = ended (λ e. status_fits e c.args.status) (λ e. (e.cause, e.location)) c.args.entries.now c.loop-entry.entry-index c.loop-entry.invariant c.loop-entry-test.false }
+    let fits = λ (e : StatusEntry). status_fits e c.args.status in
+    let found = find_from_yields_List fits _ _ c.find.result c.find.ensures.ran (YieldsList-from_slice c.args.entries.now cc) (λ x b q k. search (rules, tests)) in
+    record { first_that_fits = found_first fits (λ e. (e.cause.value, e.cause.location)) c.args.entries.now found (search rules) }

@@ -1,49 +1,20 @@
-use Rattle.std.proofs.Common.{◌+◌, drop, Some, None, vec_items, sym, ap, ◌∙◌, append-nil, arith}
-use Rattle.hexadecimal.specs.Text.{octets_from, ended}
-use Rattle.hexadecimal.proofs.Turns.{behind, blank, wrong, first, second, over}
+-- The kit decodes what is left without the blanks.
+use Rattle.std.proofs.Common.{rules, None, Ok, Err, MatchResult, ap, ◌≡◌, ◌/◌, length, ◌∙◌, sym, vec_items}
+use Rattle.std.specs.Bool.{then_some}
+use Rattle.std.specs.Option.{option_map}
+use Rattle.std.specs.Vec.{with_items}
+use Rattle.std.proofs.lemmas.List.{with_items_is}
+use Rattle.hex.specs.Hex.{decode_sized}
+use Rattle.hexadecimal.proofs.Pairs.{of_digits, without_blanks, decoded, kept}
 use Rattle.hexadecimal.proofs.octets_in.Goals as goal
 
-pub loop-byte-preserved-then-is_blank : goal.loop-byte-preserved-then-is_blank
-loop-byte-preserved-then-is_blank c =
-    let i = c.loop-byte.invariant in
-    (ap (behind (vec_items c.loop-byte.octets)) (sym (blank c.loop-byte.pending c.args.text.now c.loop-byte.byte-index (omega arith) c.if-is_blank.ensures.space_or_tab)) ∙ i.0, i.1)
-
-pub returns-in_default : goal.returns-in_default
-returns-in_default c =
-    let i = c.loop-byte.invariant in
-    let d = sym c.in_default.is ∙ c.digit_of.ensures.value_of_the_digit in
-    record { two_digits_an_octet = ap (behind (vec_items c.loop-byte.octets)) (sym (wrong c.loop-byte.pending c.args.text.now c.loop-byte.byte-index (omega arith) c.if-is_blank.ensures.space_or_tab d)) ∙ i.0 }
-
-pub loop-byte-preserved-in-Some-pending : goal.loop-byte-preserved-in-Some-pending
-loop-byte-preserved-in-Some-pending c =
-    let i = c.loop-byte.invariant in
-    let d = c.in-Some.ensures.value_of_the_digit in
-    let rest = drop c.loop-byte.byte-index c.args.text.now in (
-      ap (λ items. behind items (octets_from None (drop (c.loop-byte.byte-index + 1) c.args.text.now))) c.in_ok-push.ensures.items
-          ∙ second (vec_items c.loop-byte.octets) c.args.text.now c.loop-byte.byte-index c.in-Some-pending.high c.in-Some.digit (omega arith) c.if-is_blank.ensures.space_or_tab d
-          ∙ ap (λ p. behind (vec_items c.loop-byte.octets) (octets_from p rest)) (sym c.in-Some-pending.is)
-          ∙ i.0,
-      tt,
-    )
-
-pub loop-byte-preserved : goal.loop-byte-preserved
-loop-byte-preserved c =
-    let i = c.loop-byte.invariant in
-    let d = c.in-Some.ensures.value_of_the_digit in
-    let rest = drop c.loop-byte.byte-index c.args.text.now in (
-      ap (behind (vec_items c.loop-byte.octets)) (sym (first c.args.text.now c.loop-byte.byte-index c.in-Some.digit (omega arith) c.if-is_blank.ensures.space_or_tab d))
-          ∙ ap (λ p. behind (vec_items c.loop-byte.octets) (octets_from p rest)) (sym c.in_default-pending.is)
-          ∙ i.0,
-      c.in-Some.ensures.below_sixteen,
-    )
-
-pub returns-in-None : goal.returns-in-None
-returns-in-None c =
-    let items = vec_items c.loop-byte.octets in
-    let e = over c.loop-byte.pending c.args.text.now c.loop-byte.byte-index c.loop-byte-test.false ∙ ap ended c.in-None.is in
-    record { two_digits_an_octet = ap Some (sym (append-nil items)) ∙ ap (behind items) (sym e) ∙ c.loop-byte.invariant.0 }
-
-pub returns-in-Some-pending-2 : goal.returns-in-Some-pending-2
-returns-in-Some-pending-2 c =
-    let e = over c.loop-byte.pending c.args.text.now c.loop-byte.byte-index c.loop-byte-test.false ∙ ap ended c.in-Some-pending-2.is in
-    record { two_digits_an_octet = ap (behind (vec_items c.loop-byte.octets)) (sym e) ∙ c.loop-byte.invariant.0 }
+pub returns : goal.returns
+returns c =
+    let digits = c.in_ok-digits.digits.items in
+    let octets = with_items c.in_ok-octets.octets c.decode_to_slice-decoded.new.out in
+    let answered = ap (option_map vec_items) (c.then_some.ensures ∙ ap (λ b. then_some b octets) c.is_ok.ensures.value) in
+    let stored : vec_items octets ≡ c.decode_to_slice-decoded.new.out = with_items_is c.in_ok-octets.octets c.decode_to_slice-decoded.new.out (search rules) in
+    let pairs = decode_sized digits (length digits / 2) in
+    let decoding : MatchResult pairs (λ bytes. (c.decode_to_slice-decoded.result ≡ Ok tt) × (c.decode_to_slice-decoded.new.out ≡ bytes)) (λ e. c.decode_to_slice-decoded.result ≡ Err e) = search rules in
+    let written = kept vec_items octets pairs c.decode_to_slice-decoded.result stored decoding in
+    record { two_digits_an_octet = answered ∙ written ∙ sym (decoded digits) ∙ ap (of_digits None) c.in_ok-digits.ensures.all_but_blanks ∙ sym (without_blanks None c.args.text.now) }

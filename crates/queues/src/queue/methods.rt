@@ -1,5 +1,5 @@
 // What a queue does, by the list of the messages that wait.
-ghost use Rattle.std.specs.Prelude.{◌≡◌, ◌<◌, ◌≤◌, true, false, [], ◌∷◌, ◌++◌, length, MatchOption, MatchResult, nat_le};
+ghost use Rattle.std.specs.Prelude.{◌≡◌, ◌<◌, ◌≤◌, [], ◌∷◌, ◌++◌, length, MatchOption, MatchResult, nat_le};
 ghost use Rattle.queues.specs.Few.{listed};
 ghost use Rattle.queues.specs.Waiting.{waiting, room, free, Accepted, HandedBack, OldestLeft, NothingTaken};
 
@@ -53,6 +53,7 @@ impl<'a, M: Drop> Queue<'a, M> {
 
     // Lets `message` wait behind the others. For a caller that has asked for room before it changes anything else:
     // the `requires` spares it an answer that it could not undo.
+    #[tactic(auto, using(crate::proofs::Rings::waits_last))]
     pub fn add(&mut self, message: M)
         requires { 0 < free self.old }
         ensures room_stays { room self.new ≡ room self.old }
@@ -72,23 +73,11 @@ impl<'a, M: Drop> Queue<'a, M> {
         match few {
             Few::Zero => {}
             Few::One(a) => self.add(a),
-            Few::Two(a, b) => self.add_two(a, b),
+            Few::Two(a, b) => {
+                self.add(a);
+                self.add(b);
+            }
         }
-    }
-
-    fn add_two(&mut self, first: M, second: M)
-        requires { 2 ≤ free self.old }
-        ensures room_stays { room self.new ≡ room self.old }
-        ensures wait_last { waiting self.new ≡ waiting self.old ++ first ∷ second ∷ [] }
-    {
-        self.add(first);
-        self.add(second);
-    }
-
-    fn is_empty(&self) -> bool
-        ensures whether_nothing_waits { elim result [ true ↦ waiting self.now ≡ [] | false ↦ 0 < length (waiting self.now) ] }
-    {
-        self.len == 0
     }
 
     // Takes the oldest message out, or answers none where nothing waits.
@@ -96,13 +85,14 @@ impl<'a, M: Drop> Queue<'a, M> {
         ensures room_stays { room self.new ≡ room self.old }
         ensures oldest_leaves { MatchOption result (NothingTaken self.old self.new) (λ m. OldestLeft self.old self.new m) }
     {
-        if self.is_empty() {
+        if self.len == 0 {
             None
         } else {
             self.take_oldest()
         }
     }
 
+    #[tactic(auto, using(crate::proofs::Rings::oldest_leaves))]
     fn take_oldest(&mut self) -> Option<M>
         requires { 0 < length (waiting self.old) }
         ensures room_stays { room self.new ≡ room self.old }

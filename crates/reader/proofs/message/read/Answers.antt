@@ -1,4 +1,4 @@
-use Rattle.std.proofs.Common.{ℕ, List, Some, None, Option, sym, ap, ◌∙◌, rules}
+use Rattle.std.proofs.Common.{ℕ, List, Some, None, Option, sym, ap, ◌∙◌}
 use Rattle.messages.specs.declared.record.Part.{Part}
 use Rattle.messages.specs.Elements.{bare}
 use Rattle.messages.specs.Reading.{gathered}
@@ -10,14 +10,9 @@ handed_out : (octets : List ℕ) (o : Option Part) → Inside octets (seen_digit
 handed_out octets None i = tt
 handed_out octets (Some p) i = i
 
-pub returns : goal.returns
-returns c =
+pub returns-clause-digits_are_that_part : goal.returns-clause-digits_are_that_part
+returns-clause-digits_are_that_part c =
     let rest = c.in_ok-header.ensures.the_rest in
     let all = c.in_ok-elements.ensures.gathered_from_the_left in
     let read = sym (all ∙ ap (λ xs. gathered 0 5 xs bare) rest) in
-    record {
-      exactly_by_the_layout = search rules;
-      digits_are_that_part =
-          handed_out c.args.octets.now c.in_ok-elements.elements.digits
-          (read_inside c.args.octets.now (seen_elements c.in_ok-elements.elements) read);
-    }
+    handed_out c.args.octets.now _ (read_inside c.args.octets.now (seen_elements c.in_ok-elements.elements) read)

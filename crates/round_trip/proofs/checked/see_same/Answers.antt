@@ -4,8 +4,7 @@ use Rattle.messages.specs.Laws.{as_read}
 use Rattle.messages.proofs.RoundTrip.{round_trip}
 use Rattle.reader.specs.Seen.{seen_record}
 use Rattle.writer.specs.Values.{values}
-use Rattle.round_trip.specs.Same.{same_record}
-use Rattle.round_trip.proofs.Back.{same_self}
+use Rattle.round_trip.proofs.Back.{same_back}
 use Rattle.round_trip.proofs.checked.see_same.Goals as goal
 use Rattle.round_trip.proofs.checked.see_same.Goals.{Start}
 
@@ -17,7 +16,7 @@ unreachable-requires c =
     let m = values c.args.message in
     let b = c.in-Ok.ensures.exactly_by_the_layout ∙ back (goal.at.unreachable-requires c).Start in
     let s : seen_record c.in-Ok.read ≡ as_read m = cc in
-    let f = c.if-not-same_record.ensures.field_by_field ∙ ap (λ x. same_record x m) s ∙ same_self m in
+    let f = c.if-not-is_same.ensures.same_exactly_if_all_values_agree.1 (same_back c.in-Ok.read m s) in
     let z : ◌≡◌ {A = ℕ} 0 1 = cc in
     absurd (omega arith)
 

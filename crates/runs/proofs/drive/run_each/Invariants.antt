@@ -6,4 +6,4 @@ use Rattle.runs.proofs.drive.run_each.Given as goal
 
 abbrev pub invariant-loop-event : goal.invariant-loop-event
 invariant-loop-event g l =
-    (vec_len l.answers + length l.events ≤ vec_capacity l.answers + l.event-index) × Stepping (state_of g.P.Pool.state l.initial.gateway l.initial.exchange l.initial.sip) (map event_of (take l.event-index l.events)) (vec_items l.answers) (state_of g.P.Pool.state l.gateway l.exchange l.sip)
+    (vec_len l.answers + length l.events ≤ vec_capacity l.answers + l.event-index) × Stepping (state_of g.P.Pool.state l.initial.gateway l.initial.queues) (map event_of (take l.event-index l.events)) (vec_items l.answers) (state_of g.P.Pool.state l.gateway l.queues)

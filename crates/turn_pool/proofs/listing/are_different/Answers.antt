@@ -1,14 +1,15 @@
-use Rattle.std.proofs.Common.{sym, subst, take_all}
-use Rattle.turn_pool.specs.Listing.{Different}
-use Rattle.turn_pool.proofs.Listings.{different_more, not_different}
+use Rattle.std.proofs.Common.{◌≡◌, true, false, take, rules}
+use Rattle.std.proofs.lemmas.Iterator.{cases_from_all, YieldsList-from_slice}
+use Rattle.std.proofs.lemmas.Iterator.Consumers.{YieldsList-at, YieldsList-from_enumerate}
+use borrow.Author.Tests.{tests}
+use Rattle.turn_pool.proofs.Listings.{new_to, each_is_new}
 use Rattle.turn_pool.proofs.listing.are_different.Goals as goal
 
-pub returns-then-not-is_new : goal.returns-then-not-is_new
-returns-then-not-is_new c =
-    record { exactly_different_numbers = not_different c.args.list.now c.loop-i.i c.loop-i-test.true (sym c.if-not-is_new.ensures.exactly_a_number_not_before) }
-
-pub loop-i-preserved : goal.loop-i-preserved
-loop-i-preserved c = different_more c.args.list.now c.loop-i.i c.loop-i-test.true (sym c.if-not-is_new.ensures.exactly_a_number_not_before) c.loop-i.invariant
-
 pub returns : goal.returns
-returns c = record { exactly_different_numbers = subst Different (take_all c.loop-i.i c.args.list.now c.loop-i-test.false) c.loop-i.invariant }
+returns c =
+    let list = c.args.list.now in
+    record {
+      exactly_different_numbers = each_is_new _ list (cases_from_all _ _ _ (λ p. new_to (take p.0 list) p.1 ≡ true) (λ p. new_to (take p.0 list) p.1 ≡ false) c.all.ensures.ran
+          (YieldsList-from_enumerate (YieldsList-at c.enumerate.ensures.source (YieldsList-from_slice list cc)) c.enumerate.ensures.count)
+          (λ x q k. search (rules, tests)) (λ x q k. search (rules, tests)));
+    }

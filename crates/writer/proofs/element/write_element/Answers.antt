@@ -1,6 +1,5 @@
-use Rattle.std.proofs.Common.{◌≡◌, ◌+◌, ◌∷◌, length, set, refl, ap, ◌∙◌, arith, length-set, rules}
-use Rattle.std.proofs.lemmas.List.Edits.{paste_none, paste_more}
-use Rattle.std.proofs.lemmas.Result.{err_from_is_err_and}
+use Rattle.std.proofs.Common.{◌≡◌, ◌+◌, ◌∷◌, length, set, ap, ◌∙◌, arith, length-set, rules}
+use Rattle.std.proofs.lemmas.List.Edits.{paste_more}
 use Rattle.std.proofs.lemmas.Bool.Decides.{nat_tests}
 use Rattle.writer.specs.Element.{placed}
 use Rattle.writer.proofs.Over.{closed}
@@ -11,40 +10,17 @@ use Rattle.writer.proofs.element.write_element.Goals.{In_ok-push}
 begun : (c : In_ok-push) → c.push.new.self.bytes.now ≡ set (set c.args.bytes.now 0 c.args.id) 2 c.args.first
 begun c = c.in_ok-push.ensures.bytes
 
-pub loop-octet-init : goal.loop-octet-init
-loop-octet-init c =
-    let l = length-set c.args.bytes.now 0 c.args.id in
-    let told = c.in_ok-push.ensures in
-    let room = told.value in
-    let n = told.put in
-    let b = simp length-set at (ap length (begun c)) in
-    (omega arith, omega arith, grind (arith, nat_tests), refl, paste_none c.push.new.self.bytes.now 3 c.args.rest.now, refl)
-
-pub push-requires-in-loop-octet : goal.push-requires-in-loop-octet
-push-requires-in-loop-octet c = let i = c.loop-octet.invariant in (omega arith, omega arith)
-
-pub drop-element-requires-in_err-push-2 : goal.drop-element-requires-in_err-push-2
-drop-element-requires-in_err-push-2 c =
+pub returns-in_err-push-2-clause-length_octet_counts_what_was_put :
+    goal.returns-in_err-push-2-clause-length_octet_counts_what_was_put
+returns-in_err-push-2-clause-length_octet_counts_what_was_put c =
     let i = c.loop-octet.invariant in
-    let told = c.in_err-push-2.ensures in
-    let n = told.put in
-    let l = ap length told.bytes in
-    (omega arith, omega arith)
-
-pub returns-in_err-push-2 : goal.returns-in_err-push-2
-returns-in_err-push-2 c =
-    let i = c.loop-octet.invariant in
-    let b = begun (goal.at.returns-in_err-push-2 c).In_ok-push in
+    let b = begun (goal.at.returns-in_err-push-2-clause-length_octet_counts_what_was_put c).In_ok-push in
     let l = simp length-set at (ap length b) in
     let t = c.loop-octet-test.true in
     let told = c.in_err-push-2.ensures in
     let room = told.value in
     let p : c.loop-octet.element.put ≡ placed c.args.bytes.now (c.args.first ∷ c.args.rest.now) = grind (arith, nat_tests) in
-    let q = err_from_is_err_and c.from_residual-in_err-push-2.result c.from_residual-in_err-push-2.ensures.1 in
-    record {
-      length_octet_counts_what_was_put = closed c.args.bytes.now c.args.rest.now c.args.id c.args.first c.loop-octet.octet-index c.push-in-loop-octet.new.self.put (omega arith) (told.put ∙ i.0) (told.put ∙ p) (told.bytes ∙ simp b at i.4) (search rules);
-      size_or_refused = rw (q.1, q.2, told.ground) (grind (arith, nat_tests));
-    }
+    closed c.args.bytes.now c.args.rest.now c.args.id c.args.first c.loop-octet.octet-index c.push-in-loop-octet.new.self.put (omega arith) (told.put ∙ i.0) (told.put ∙ p) (told.bytes ∙ simp b at i.4) (search rules)
 
 pub loop-octet-preserved : goal.loop-octet-preserved
 loop-octet-preserved c =
@@ -58,19 +34,10 @@ loop-octet-preserved c =
     let more = paste_more c.push.new.self.bytes.now 3 c.args.rest.now c.loop-octet.octet-index 0 (grind (arith, nat_tests)) (omega arith) in
     (omega arith, grind (arith, nat_tests), grind (arith, nat_tests), simp (bytes, length-set) i.3, cc, told.lender ∙ i.5)
 
-pub overflow_add-result : goal.overflow_add-result
-overflow_add-result c = let i = c.loop-octet.invariant in omega arith
-
-pub drop-element-requires-2 : goal.drop-element-requires-2
-drop-element-requires-2 c = let i = c.loop-octet.invariant in (omega arith, omega arith)
-
-pub returns : goal.returns
-returns c =
+pub returns-clause-length_octet_counts_what_was_put : goal.returns-clause-length_octet_counts_what_was_put
+returns-clause-length_octet_counts_what_was_put c =
     let i = c.loop-octet.invariant in
-    let b = begun (goal.at.returns c).In_ok-push in
+    let b = begun (goal.at.returns-clause-length_octet_counts_what_was_put c).In_ok-push in
     let l = simp length-set at (ap length b) in
     let p : c.loop-octet.element.put ≡ placed c.args.bytes.now (c.args.first ∷ c.args.rest.now) = omega arith in
-    record {
-      length_octet_counts_what_was_put = closed c.args.bytes.now c.args.rest.now c.args.id c.args.first c.loop-octet.octet-index c.loop-octet.element.put (omega arith) i.0 p (simp b at i.4) (search rules);
-      size_or_refused = grind (arith, nat_tests);
-    }
+    closed c.args.bytes.now c.args.rest.now c.args.id c.args.first c.loop-octet.octet-index c.loop-octet.element.put (omega arith) i.0 p (simp b at i.4) (search rules)

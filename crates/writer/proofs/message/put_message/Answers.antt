@@ -1,8 +1,17 @@
 use Rattle.std.proofs.Common.{◌≡◌, ◌++◌, length, refl, ap, ◌∙◌, append_assoc}
 use Rattle.messages.specs.Writing.{encoded, head_octets, complete_octets, bearer_octets, cause_octets, channel_octets, progress_octets, digits_octets}
 use Rattle.writer.specs.Values.{values, values_of}
-use Rattle.writer.proofs.Lent.{lent, longer}
+use Rattle.writer.proofs.Lent.{lent, longer, within}
 use Rattle.writer.proofs.message.put_message.Goals as goal
+
+pub put_channel-at-requires-clause-range : goal.put_channel-at-requires-clause-range
+put_channel-at-requires-clause-range c = (within (values c.args.message) c.requires.in_range).channel
+
+pub put_progress-at-requires-clause-range : goal.put_progress-at-requires-clause-range
+put_progress-at-requires-clause-range c = (within (values c.args.message) c.requires.in_range).progress
+
+pub put_digits-at-requires-clause-range : goal.put_digits-at-requires-clause-range
+put_digits-at-requires-clause-range c = (within (values c.args.message) c.requires.in_range).digits
 
 pub returns : goal.returns
 returns c =

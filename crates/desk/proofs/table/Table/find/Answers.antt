@@ -1,25 +1,16 @@
-use Rattle.std.proofs.Common.{sym, ap, ◌∙◌, rules, below_more}
-use Rattle.desk.specs.Keys.{keyed}
-use Rattle.desk.proofs.Searches.{hits, seek_first, seek_never}
-use Rattle.desk.proofs.table.Table.find.Goals.{in-Some+else-is_keyed, in_default}
+use Rattle.std.proofs.Common.{◌≡◌, ap, ◌∙◌, rules, tests, arith}
+use Rattle.std.proofs.lemmas.Grind.{common_steps}
+use Rattle.std.proofs.lemmas.Iterator.{YieldsList-from_slice}
+use Rattle.std.proofs.lemmas.Iterator.Consumers.{YieldsList-from_enumerate, YieldsList-at}
+use Rattle.desk.specs.Keys.{keyed, found_of}
+use Rattle.desk.proofs.Searches.{matched, find_map_from_yields_List, seeks, within}
 use Rattle.desk.proofs.table.Table.find.Goals as goal
 
-pub returns-then-is_keyed : goal.returns-then-is_keyed
-returns-then-is_keyed c =
-    record {
-      the_first_that_matches_or_none = sym (seek_first (keyed c.args.key) c.args.self.now.places c.loop-place.place c.in-Some.call c.loop-place.invariant c.in-Some.is (sym c.if-is_keyed.ensures.yes_exactly_if_it_matches));
-      stands_at_its_place = (search rules, c.in-Some.is);
-    }
-
 pub returns : goal.returns
-returns c = record { the_first_that_matches_or_none = sym (seek_never (keyed c.args.key) c.args.self.now.places (λ j h. c.loop-place.invariant j (search rules))); stands_at_its_place = tt }
-
--- a place is passed where it is free, or its call does not match
-pub loop-place-preserved : goal.loop-place-preserved
-loop-place-preserved c =
-    let here = hits (keyed c.args.key) in
-    below_more _ _ c.loop-place.invariant
-    (elim c.match-slot.branch [
-      | in-Some+else-is_keyed w ↦ ap here w.in-Some.is ∙ sym w.if-is_keyed.ensures.yes_exactly_if_it_matches
-      | in_default w ↦ ap here w.in_default.is
-    ])
+returns c =
+    let places = c.args.self.now.places in
+    let first : found_of c.find_map.result ≡ _ =
+    ap found_of (find_map_from_yields_List _ _ _ (λ q. matched (keyed c.args.key) q.0 q.1) _ (λ x r q k. (search (rules, tests), grind (arith, common_steps)))
+    _ _ _ _ c.find_map.ensures.ran c.find_map.ensures.runs (YieldsList-from_enumerate (YieldsList-at c.enumerate.ensures.source (YieldsList-from_slice places (cc))) (search rules)))
+    ∙ seeks (keyed c.args.key) places in
+    record { the_first_that_matches_or_none = first; stands_at_its_place = within (keyed c.args.key) places _ (search rules) first }

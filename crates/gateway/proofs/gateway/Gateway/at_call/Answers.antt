@@ -11,7 +11,7 @@ use Rattle.gateway.proofs.gateway.Gateway.at_call.Goals as goal
 
 pub settle-requires : goal.settle-requires
 settle-requires g c =
-    let st = state_of g.P.Pool.state c.args.self.now c.args.exchange.now c.args.sip.now in
+    let st = state_of g.P.Pool.state c.args.self.now c.args.queues.now in
     let b = bounded g.P.Pool.state g.P.Pool.top g.met.P.Pool.known_within_top g.met.P.Pool.top_within_127 c.args.self.now.trunk.pool in
     let m = seen_record c.args.message in
     let f = c.args.found in
@@ -23,7 +23,7 @@ settle-requires g c =
 
 pub returns-else-wants_another : goal.returns-else-wants_another
 returns-else-wants_another g c =
-    let st = state_of g.P.Pool.state c.args.self.now c.args.exchange.now c.args.sip.now in
+    let st = state_of g.P.Pool.state c.args.self.now c.args.queues.now in
     let b = bounded g.P.Pool.state g.P.Pool.top g.met.P.Pool.known_within_top g.met.P.Pool.top_within_127 c.args.self.now.trunk.pool in
     let m = seen_record c.args.message in
     let f = c.args.found in

@@ -17,7 +17,7 @@ use Rattle.gateway.proofs.gateway.Gateway.begin_at.Goals as goal
 pub apply-requires : goal.apply-requires
 apply-requires g c =
     let places = c.args.self.now.table.places in
-    let m = seen_record c.args.message in
+    let m = seen_record c.args.setup.message in
     let token = c.in-Some.token in
     let full = c.args.self.now.full in
     let same = c.begins-effect.ensures.proceeding_or_collecting ∙ ap (λ (x : ℕ). begins full m c.args.number x) c.channel.ensures.answers_its_channel in
@@ -25,22 +25,22 @@ apply-requires g c =
 
 pub returns-in-None : goal.returns-in-None
 returns-in-None g c =
-    let st = state_of g.P.Pool.state c.args.self.now c.args.exchange.now c.args.sip.now in
+    let st = state_of g.P.Pool.state c.args.self.now c.args.queues.now in
     let b = bounded g.P.Pool.state g.P.Pool.top g.met.P.Pool.known_within_top g.met.P.Pool.top_within_127 c.args.self.now.trunk.pool in
-    let m = seen_record c.args.message in
+    let m = seen_record c.args.setup.message in
     let wish = m.elements.channel in
     let w = wished st b m c.args.place c.args.number wish None c.in-None.ensures.the_wished_or_any_or_none in
-    let list = c.reject.ensures.list ∙ ap (λ (v : ℕ). waiting c.args.exchange.now ++ rejecting m.reference v ∷ []) c.busy_cause.ensures.by_the_wish in
+    let list = c.reject.ensures.list ∙ ap (λ (v : ℕ). waiting c.args.queues.now.exchange ++ rejecting m.reference v ∷ []) c.busy_cause.ensures.by_the_wish in
     record {
       as_the_wish_gets = with_place st b m c.args.place c.args.number wish (rejects m (busy_cause wish)) w (ap (λ (x : Report). Answer.Step (Ok x)) c.reject.ensures.report)
-          (replied st (rejecting m.reference (busy_cause wish) ∷ []) [] (g.P.Pool.state c.seize_for.new.trunk.pool) (waiting c.reject.new.exchange) (waiting c.args.sip.now) (room c.reject.new.exchange) (room c.args.sip.now) c.in-None.ensures.seizes_it_alone list (sym (append-nil (waiting c.args.sip.now))) c.reject.ensures.size refl);
+          (replied st (rejecting m.reference (busy_cause wish) ∷ []) [] (g.P.Pool.state c.seize_for.new.trunk.pool) (waiting c.reject.new.exchange) (waiting c.args.queues.now.sip) (room c.reject.new.exchange) (room c.args.queues.now.sip) c.in-None.ensures.seizes_it_alone list (sym (append-nil (waiting c.args.queues.now.sip))) c.reject.ensures.size refl);
     }
 
 pub returns-in-Some : goal.returns-in-Some
 returns-in-Some g c =
-    let st = state_of g.P.Pool.state c.args.self.now c.args.exchange.now c.args.sip.now in
+    let st = state_of g.P.Pool.state c.args.self.now c.args.queues.now in
     let b = bounded g.P.Pool.state g.P.Pool.top g.met.P.Pool.known_within_top g.met.P.Pool.top_within_127 c.args.self.now.trunk.pool in
-    let m = seen_record c.args.message in
+    let m = seen_record c.args.setup.message in
     let i = c.args.place in
     let n = c.args.number in
     let wish = m.elements.channel in

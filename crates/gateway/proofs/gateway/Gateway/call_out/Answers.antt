@@ -14,36 +14,36 @@ use Rattle.gateway.proofs.gateway.Gateway.call_out.Goals as goal
 
 pub returns-in_default : goal.returns-in_default
 returns-in_default g c =
-    let st = state_of g.P.Pool.state c.args.self.now c.args.exchange.now c.args.sip.now in
+    let st = state_of g.P.Pool.state c.args.self.now c.args.queues.now in
     let b = bounded g.P.Pool.state g.P.Pool.top g.met.P.Pool.known_within_top g.met.P.Pool.top_within_127 c.args.self.now.trunk.pool in
-    let t = c.args.transaction in
+    let t = c.args.invite.transaction in
     let p = fair_pick st.pool b in
     let ch : Choice = record { pick = p.0; place = None } in
     let fair : Fair st ch = record { pick = p.1; place = c.in_default.ensures.a_free_place_or_none_is_free } in
     record {
-      a_call_or_503 = did st (λ ch. calls_out t c.args.dialogue c.args.digits.now ch.place ch.pick) ch fair (responds t 503) refl (ap (λ (x : Report). Answer.Step (Ok x)) c.respond.ensures.report)
-          (replied st [] (SipMessage.Response t 503 ∷ []) st.pool (waiting c.args.exchange.now) (waiting c.respond.new.sip) (room c.args.exchange.now) (room c.respond.new.sip) (λ k. refl) (sym (append-nil (waiting c.args.exchange.now))) c.respond.ensures.list refl c.respond.ensures.size);
+      a_call_or_503 = did st (λ ch. calls_out t c.args.invite.dialogue c.args.invite.digits.octets.now ch.place ch.pick) ch fair (responds t 503) refl (ap (λ (x : Report). Answer.Step (Ok x)) c.respond.ensures.report)
+          (replied st [] (SipMessage.Response t 503 ∷ []) st.pool (waiting c.args.queues.now.exchange) (waiting c.respond.new.sip) (room c.args.queues.now.exchange) (room c.respond.new.sip) (λ k. refl) (sym (append-nil (waiting c.args.queues.now.exchange))) c.respond.ensures.list refl c.respond.ensures.size);
     }
 
 pub returns-in-None : goal.returns-in-None
 returns-in-None g c =
-    let st = state_of g.P.Pool.state c.args.self.now c.args.exchange.now c.args.sip.now in
+    let st = state_of g.P.Pool.state c.args.self.now c.args.queues.now in
     let b = bounded g.P.Pool.state g.P.Pool.top g.met.P.Pool.known_within_top g.met.P.Pool.top_within_127 c.args.self.now.trunk.pool in
-    let t = c.args.transaction in
+    let t = c.args.invite.transaction in
     let ch : Choice = record { pick = None; place = Some c.in-Some.place } in
     let fair : Fair st ch = record { pick = c.in-None.ensures.granted_exactly_if_one_is_idle; place = c.in-Some.ensures.a_free_place_or_none_is_free } in
     record {
-      a_call_or_503 = did st (λ ch. calls_out t c.args.dialogue c.args.digits.now ch.place ch.pick) ch fair (responds t 503) refl (ap (λ (x : Report). Answer.Step (Ok x)) c.respond-in-None.ensures.report)
-          (replied st [] (SipMessage.Response t 503 ∷ []) (g.P.Pool.state c.seize_any.new.self.pool) (waiting c.args.exchange.now) (waiting c.respond-in-None.new.sip) (room c.args.exchange.now) (room c.respond-in-None.new.sip) c.in-None.ensures.grant_seizes_it_alone (sym (append-nil (waiting c.args.exchange.now))) c.respond-in-None.ensures.list refl c.respond-in-None.ensures.size);
+      a_call_or_503 = did st (λ ch. calls_out t c.args.invite.dialogue c.args.invite.digits.octets.now ch.place ch.pick) ch fair (responds t 503) refl (ap (λ (x : Report). Answer.Step (Ok x)) c.respond-in-None.ensures.report)
+          (replied st [] (SipMessage.Response t 503 ∷ []) (g.P.Pool.state c.seize_any.new.self.pool) (waiting c.args.queues.now.exchange) (waiting c.respond-in-None.new.sip) (room c.args.queues.now.exchange) (room c.respond-in-None.new.sip) c.in-None.ensures.grant_seizes_it_alone (sym (append-nil (waiting c.args.queues.now.exchange))) c.respond-in-None.ensures.list refl c.respond-in-None.ensures.size);
     }
 
 pub returns-in-Some-seize_any : goal.returns-in-Some-seize_any
 returns-in-Some-seize_any g c =
-    let st = state_of g.P.Pool.state c.args.self.now c.args.exchange.now c.args.sip.now in
+    let st = state_of g.P.Pool.state c.args.self.now c.args.queues.now in
     let b = bounded g.P.Pool.state g.P.Pool.top g.met.P.Pool.known_within_top g.met.P.Pool.top_within_127 c.args.self.now.trunk.pool in
-    let t = c.args.transaction in
-    let d = c.args.dialogue in
-    let xs = c.args.digits.now in
+    let t = c.args.invite.transaction in
+    let d = c.args.invite.dialogue in
+    let xs = c.args.invite.digits.octets.now in
     let i = c.in-Some.place in
     let x = c.in-Some-seize_any.token.channel in
     let e = invited t d xs x in

@@ -8,20 +8,22 @@ use Rattle.calls.specs.Rules.{outcome, refuse, is_roomy}
 use Rattle.calls.proofs.Dids.{bounded, plainly}
 use Rattle.decisions.specs.Outcomes.{outcome_of}
 use Rattle.gateway.specs.Stands.{state_of}
+use Rattle.gateway.proofs.Ways.{passed_on}
 use Rattle.gateway.proofs.gateway.Gateway.carry_out.Goals as goal
 
-pub returns-then-has_room-clause-a_step_of_each_event_that_comes_to_it : goal.returns-then-has_room-clause-a_step_of_each_event_that_comes_to_it
-returns-then-has_room-clause-a_step_of_each_event_that_comes_to_it g c =
-    let st = state_of g.P.Pool.state c.args.self.now c.args.exchange.now c.args.sip.now in
+pub returns-clause-a_step_of_each_event_that_comes_to_it : goal.returns-clause-a_step_of_each_event_that_comes_to_it
+returns-clause-a_step_of_each_event_that_comes_to_it g c =
+    let st = state_of g.P.Pool.state c.args.self.now c.args.queues.now in
     let b = bounded g.P.Pool.state g.P.Pool.top g.met.P.Pool.known_within_top g.met.P.Pool.top_within_127 c.args.self.now.trunk.pool in
     λ ev o p e.
-    plainly st (λ ch. outcome st ch ev) b (outcome_of c.args.decision) (λ ch. e ch ∙ cond-true (is_roomy st) o (refuse Ground.QueueFull) (sym c.if-has_room.ensures.two_places_in_either) ∙ sym p)
+    plainly st (λ ch. outcome st ch ev) b (outcome_of c.args.decision) (λ ch. e ch ∙ cond-true (is_roomy st) o (refuse Ground.QueueFull) c.in_ok-need_room.ensures.two_places_in_either ∙ sym p)
     c.settle.ensures.answer_of_the_outcome c.settle.ensures.outcome_applied
 
-pub returns-else-has_room-clause-a_step_of_each_event_that_comes_to_it : goal.returns-else-has_room-clause-a_step_of_each_event_that_comes_to_it
-returns-else-has_room-clause-a_step_of_each_event_that_comes_to_it g c =
-    let st = state_of g.P.Pool.state c.args.self.now c.args.exchange.now c.args.sip.now in
+pub returns-in_err-need_room-clause-a_step_of_each_event_that_comes_to_it : goal.returns-in_err-need_room-clause-a_step_of_each_event_that_comes_to_it
+returns-in_err-need_room-clause-a_step_of_each_event_that_comes_to_it g c =
+    let st = state_of g.P.Pool.state c.args.self.now c.args.queues.now in
     let b = bounded g.P.Pool.state g.P.Pool.top g.met.P.Pool.known_within_top g.met.P.Pool.top_within_127 c.args.self.now.trunk.pool in
+    let full = c.in_err-need_room.ensures.two_places_in_either in
     λ ev o p e.
-    plainly st (λ ch. outcome st ch ev) b (refuse Ground.QueueFull) (λ ch. e ch ∙ cond-false (is_roomy st) o (refuse Ground.QueueFull) (sym c.if-has_room.ensures.two_places_in_either))
-    (ap (λ (x : Refused). Answer.Step (Err x)) c.refused.ensures.without_a_place) refl
+    plainly st (λ ch. outcome st ch ev) b (refuse Ground.QueueFull) (λ ch. e ch ∙ cond-false (is_roomy st) o (refuse Ground.QueueFull) full.0)
+    (passed_on c.from_residual.result _ c.from_residual.ensures.1 ∙ ap (λ (x : Refused). Answer.Step (Err x)) full.1) refl

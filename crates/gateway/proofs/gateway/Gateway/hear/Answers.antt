@@ -1,25 +1,22 @@
-use Rattle.std.proofs.Common.{sym, refl}
+use Rattle.std.proofs.Common.{Err, ap, ◌∙◌}
 use Rattle.reader.specs.Seen.{seen_record}
+use Rattle.calls.specs.declared.answers.Answer.{Answer}
+use Rattle.calls.specs.declared.answers.Refused.{Refused}
 use Rattle.calls.specs.Rules.{Choice, Outcome, Found, on_message, seek, by_reference}
 use Rattle.calls.proofs.Dids.{bounded}
 use Rattle.gateway.specs.Stands.{state_of}
-use Rattle.gateway.proofs.Ways.{full_refused, found_live}
+use Rattle.gateway.proofs.Ways.{passed_on, full_refused, found_live}
 use Rattle.gateway.proofs.gateway.Gateway.hear.Goals as goal
 
-pub returns-then-not-has_room : goal.returns-then-not-has_room
-returns-then-not-has_room g c =
-    let st = state_of g.P.Pool.state c.args.self.now c.args.exchange.now c.args.sip.now in
+pub returns-in_err-need_room-clause-by_the_rules : goal.returns-in_err-need_room-clause-by_the_rules
+returns-in_err-need_room-clause-by_the_rules g c =
+    let st = state_of g.P.Pool.state c.args.self.now c.args.queues.now in
     let b = bounded g.P.Pool.state g.P.Pool.top g.met.P.Pool.known_within_top g.met.P.Pool.top_within_127 c.args.self.now.trunk.pool in
     let m = seen_record c.args.message in
     let rule : Choice → Outcome = λ ch. on_message st ch m (seek (by_reference m.reference) st.table) in
-    record { refusal_leaves_all = (refl, refl, refl); by_the_rules = full_refused st rule b c.if-not-has_room.ensures.two_places_in_either c.refused.ensures.without_a_place }
+    full_refused st rule b c.in_err-need_room.ensures.two_places_in_either.0 (passed_on c.from_residual.result _ c.from_residual.ensures.1 ∙ ap (λ (x : Refused). Answer.Step (Err x)) c.in_err-need_room.ensures.two_places_in_either.1)
 
-pub at_call-requires : goal.at_call-requires
-at_call-requires g c =
-    let st = state_of g.P.Pool.state c.args.self.now c.args.exchange.now c.args.sip.now in
+pub at_call-requires-clause-live : goal.at_call-requires-clause-live
+at_call-requires-clause-live g c =
     let f : Found = record { place = c.in-Some.found.place; call = c.in-Some.found.call } in
-    record {
-      found = c.in-Some.ensures.stands_at_its_place;
-      live = found_live c.args.message.reference st.table f c.in-Some.ensures.the_first_that_matches_or_none;
-      roomy = sym c.if-not-has_room.ensures.two_places_in_either;
-    }
+    found_live c.args.message.reference c.args.self.now.table.places f c.in-Some.ensures.the_first_that_matches_or_none

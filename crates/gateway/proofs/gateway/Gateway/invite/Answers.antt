@@ -9,44 +9,41 @@ use Rattle.calls.specs.Rules.{Choice, Outcome, refuse, responds, on_invite, seek
 use Rattle.calls.proofs.Dids.{bounded, plainly, in_room}
 use Rattle.gateway.specs.Stands.{state_of}
 use Rattle.gateway.proofs.Invites.{invite_refused, invite_new, dial_refused}
-use Rattle.gateway.proofs.Ways.{replied, full_refused}
+use Rattle.gateway.proofs.Ways.{passed_on, replied, full_refused}
 use Rattle.gateway.proofs.gateway.Gateway.invite.Goals as goal
 
-pub returns-then-not-has_room : goal.returns-then-not-has_room
-returns-then-not-has_room g c =
-    let st = state_of g.P.Pool.state c.args.self.now c.args.exchange.now c.args.sip.now in
+pub returns-in_err-need_room-clause-steps_by_the_rules : goal.returns-in_err-need_room-clause-steps_by_the_rules
+returns-in_err-need_room-clause-steps_by_the_rules g c =
+    let st = state_of g.P.Pool.state c.args.self.now c.args.queues.now in
     let b = bounded g.P.Pool.state g.P.Pool.top g.met.P.Pool.known_within_top g.met.P.Pool.top_within_127 c.args.self.now.trunk.pool in
-    let t = c.args.transaction in
-    let d = c.args.dialogue in
-    let xs = c.args.digits.now in
+    let t = c.args.invite.transaction in
+    let d = c.args.invite.dialogue in
+    let xs = c.args.invite.digits.now in
     let rule : Choice → Outcome = λ ch. on_invite ch t d xs (seek (by_transaction t) st.table) (seek (holds_dialogue d) st.table) in
-    record { refusal_leaves_all = (refl, refl, refl); steps_by_the_rules = full_refused st rule b c.if-not-has_room.ensures.two_places_in_either c.refused.ensures.without_a_place }
+    full_refused st rule b c.in_err-need_room.ensures.two_places_in_either.0 (passed_on c.from_residual.result _ c.from_residual.ensures.1 ∙ ap (λ (x : Refused). Answer.Step (Err x)) c.in_err-need_room.ensures.two_places_in_either.1)
 
-pub returns-in-Some : goal.returns-in-Some
-returns-in-Some g c =
-    let st = state_of g.P.Pool.state c.args.self.now c.args.exchange.now c.args.sip.now in
+pub returns-in_err-screen-clause-steps_by_the_rules : goal.returns-in_err-screen-clause-steps_by_the_rules
+returns-in_err-screen-clause-steps_by_the_rules g c =
+    let st = state_of g.P.Pool.state c.args.self.now c.args.queues.now in
     let b = bounded g.P.Pool.state g.P.Pool.top g.met.P.Pool.known_within_top g.met.P.Pool.top_within_127 c.args.self.now.trunk.pool in
-    let t = c.args.transaction in
-    let d = c.args.dialogue in
-    let xs = c.args.digits.now in
+    let t = c.args.invite.transaction in
+    let d = c.args.invite.dialogue in
+    let xs = c.args.invite.digits.now in
     let rule : Choice → Outcome = λ ch. on_invite ch t d xs (seek (by_transaction t) st.table) (seek (holds_dialogue d) st.table) in
-    record {
-      refusal_leaves_all = (refl, refl, refl);
-      steps_by_the_rules = in_room st rule c.if-not-has_room.ensures.two_places_in_either (plainly st rule b (refuse c.in-Some.ground) (λ ch. invite_refused ch t d xs (seek (by_transaction t) st.table) (seek (holds_dialogue d) st.table) c.in-Some.ground c.in-Some.ensures.transaction_then_dialogue) (ap (λ (x : Refused). Answer.Step (Err x)) c.refused-in-Some.ensures.without_a_place) refl);
-    }
+    let why = c.in_err-screen.field-0.0 in
+    in_room st rule (sym c.in_ok-need_room.ensures.two_places_in_either)
+    (plainly st rule b (refuse why) (λ ch. invite_refused ch t d xs (seek (by_transaction t) st.table) (seek (holds_dialogue d) st.table) why c.in_err-screen.ensures.transaction_then_dialogue)
+    (passed_on c.from_residual-in_err-screen.result _ c.from_residual-in_err-screen.ensures.1) refl)
 
-pub returns-in-Some-dialling_refusal : goal.returns-in-Some-dialling_refusal
-returns-in-Some-dialling_refusal g c =
-    let st = state_of g.P.Pool.state c.args.self.now c.args.exchange.now c.args.sip.now in
+pub returns-in-Err-clause-steps_by_the_rules : goal.returns-in-Err-clause-steps_by_the_rules
+returns-in-Err-clause-steps_by_the_rules g c =
+    let st = state_of g.P.Pool.state c.args.self.now c.args.queues.now in
     let b = bounded g.P.Pool.state g.P.Pool.top g.met.P.Pool.known_within_top g.met.P.Pool.top_within_127 c.args.self.now.trunk.pool in
-    let t = c.args.transaction in
-    let d = c.args.dialogue in
-    let xs = c.args.digits.now in
-    let s = c.in-Some-dialling_refusal.status in
+    let t = c.args.invite.transaction in
+    let d = c.args.invite.dialogue in
+    let xs = c.args.invite.digits.now in
     let rule : Choice → Outcome = λ ch. on_invite ch t d xs (seek (by_transaction t) st.table) (seek (holds_dialogue d) st.table) in
-    record {
-      refusal_leaves_all = tt;
-      steps_by_the_rules = in_room st rule c.if-not-has_room.ensures.two_places_in_either
-          (plainly st rule b (responds t s) (λ ch. invite_new ch t d xs (seek (by_transaction t) st.table) (seek (holds_dialogue d) st.table) c.in_default.ensures.transaction_then_dialogue ∙ dial_refused ch t d xs s c.in-Some-dialling_refusal.ensures.none_or_not_a_number) (ap (λ (x : Report). Answer.Step (Ok x)) c.respond.ensures.report)
-          (replied st [] (SipMessage.Response t s ∷ []) st.pool (waiting c.args.exchange.now) (waiting c.respond.new.sip) (room c.args.exchange.now) (room c.respond.new.sip) (λ k. refl) (sym (append-nil (waiting c.args.exchange.now))) c.respond.ensures.list refl c.respond.ensures.size));
-    }
+    let s = c.in-Err.status in
+    in_room st rule (sym c.in_ok-need_room.ensures.two_places_in_either)
+    (plainly st rule b (responds t s) (λ ch. invite_new ch t d xs (seek (by_transaction t) st.table) (seek (holds_dialogue d) st.table) c.in_ok-screen.ensures.transaction_then_dialogue ∙ dial_refused ch t d xs s c.in-Err.ensures.none_or_not_a_number) (ap (λ (x : Report). Answer.Step (Ok x)) c.respond.ensures.report)
+    (replied st [] (SipMessage.Response t s ∷ []) st.pool (waiting c.args.queues.now.exchange) (waiting c.respond.new.sip) (room c.args.queues.now.exchange) (room c.respond.new.sip) (λ k. refl) (sym (append-nil (waiting c.args.queues.now.exchange))) c.respond.ensures.list refl c.respond.ensures.size))

@@ -13,17 +13,17 @@ use Rattle.gateway.proofs.gateway.Gateway.response.Goals as goal
 
 pub carry_out-requires : goal.carry_out-requires
 carry_out-requires g c =
-    let st = state_of g.P.Pool.state c.args.self.now c.args.exchange.now c.args.sip.now in
+    let st = state_of g.P.Pool.state c.args.self.now c.args.queues.now in
     let b = bounded g.P.Pool.state g.P.Pool.top g.met.P.Pool.known_within_top g.met.P.Pool.top_within_127 c.args.self.now.trunk.pool in
     record {
-      possible_with_room = possible_step st c.args.self.now.table.whole c.args.self.now.sound b (Response _ c.args.status _ _) (responded st.table _ c.args.status _ _) _ c.on_response-decision.ensures.by_the_status
-          (λ ch. cond-true (is_status c.args.status) (roomed st _) (refuse Ground.StatusOutOfRange) (sym c.if-is_status.ensures.from_100_to_699))
-          (response_still st.table _ c.args.status _ _);
+      possible_with_room = possible_step st c.args.self.now.table.whole c.args.self.now.sound b (Response _ c.args.response.status _ _) (responded st.table _ c.args.response.status _ _) _ c.on_response-decision.ensures.by_the_status
+          (λ ch. cond-true (is_status c.args.response.status) (roomed st _) (refuse Ground.StatusOutOfRange) (sym c.if-not-is_status.ensures.from_100_to_699))
+          (response_still st.table _ c.args.response.status _ _);
     }
 
-pub returns-else-is_status-clause-steps_by_the_rules : goal.returns-else-is_status-clause-steps_by_the_rules
-returns-else-is_status-clause-steps_by_the_rules g c =
-    let st = state_of g.P.Pool.state c.args.self.now c.args.exchange.now c.args.sip.now in
+pub returns-then-not-is_status-clause-steps_by_the_rules : goal.returns-then-not-is_status-clause-steps_by_the_rules
+returns-then-not-is_status-clause-steps_by_the_rules g c =
+    let st = state_of g.P.Pool.state c.args.self.now c.args.queues.now in
     let b = bounded g.P.Pool.state g.P.Pool.top g.met.P.Pool.known_within_top g.met.P.Pool.top_within_127 c.args.self.now.trunk.pool in
-    let o = responded st.table c.args.number c.args.status c.args.dialogue c.args.media in
-    plainly st _ b (refuse Ground.StatusOutOfRange) (λ ch. cond-false (is_status c.args.status) (roomed st o) (refuse Ground.StatusOutOfRange) (sym c.if-is_status.ensures.from_100_to_699)) (ap (λ (x : Refused). Answer.Step (Err x)) c.refused.ensures.without_a_place) refl
+    let o = responded st.table c.args.response.number c.args.response.status c.args.response.dialogue c.args.response.media in
+    plainly st _ b (refuse Ground.StatusOutOfRange) (λ ch. cond-false (is_status c.args.response.status) (roomed st o) (refuse Ground.StatusOutOfRange) (sym c.if-not-is_status.ensures.from_100_to_699)) (ap (λ (x : Refused). Answer.Step (Err x)) c.from.ensures) refl

@@ -11,7 +11,7 @@ use Rattle.gateway.proofs.gateway.Gateway.retry.Goals as goal
 
 pub apply-requires : goal.apply-requires
 apply-requires g c =
-    let st = state_of g.P.Pool.state c.args.self.now c.args.exchange.now c.args.sip.now in
+    let st = state_of g.P.Pool.state c.args.self.now c.args.queues.now in
     let f = c.args.found in
     let token = c.seize_any-token.result in
     let same = c.tries_again-effect.ensures.another_channel_or_none ∙ ap (λ (x : Option ℕ). tries_again x f.call) c.channel_of.ensures.answers_its_channel in
@@ -20,7 +20,7 @@ apply-requires g c =
 
 pub returns : goal.returns
 returns g c =
-    let st = state_of g.P.Pool.state c.args.self.now c.args.exchange.now c.args.sip.now in
+    let st = state_of g.P.Pool.state c.args.self.now c.args.queues.now in
     let f = c.args.found in
     let pick = channel_of c.seize_any-token.result in
     let place = fair_place st.table in

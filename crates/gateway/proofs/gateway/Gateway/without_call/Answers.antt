@@ -9,7 +9,7 @@ use Rattle.gateway.proofs.gateway.Gateway.without_call.Goals as goal
 
 pub returns-else-is_setup : goal.returns-else-is_setup
 returns-else-is_setup g c =
-    let st = state_of g.P.Pool.state c.args.self.now c.args.exchange.now c.args.sip.now in
+    let st = state_of g.P.Pool.state c.args.self.now c.args.queues.now in
     let b = bounded g.P.Pool.state g.P.Pool.top g.met.P.Pool.known_within_top g.met.P.Pool.top_within_127 c.args.self.now.trunk.pool in
     let m = seen_record c.args.message in
     record {
