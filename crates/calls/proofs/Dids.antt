@@ -1,7 +1,6 @@
 -- How a step of the code comes to what the rules say.
-use Rattle.std.proofs.Common.{◌≡◌, ℕ, ◌≤◌, true, false, ◌&&◌, leb, List, [], ◌∷◌, ◌++◌, drop, set, Some, None, Ok, Err, Option, sym, refl, ap, ◌∙◌, arith, MatchOption}
-use Rattle.std.proofs.lemmas.Bool.{cond-true, cond-false}
-use Rattle.std.proofs.lemmas.Bool.Decides.{nat_tests}
+use Rattle.std.proofs.Common.{◌≡◌, ℕ, ◌≤◌, true, List, [], ◌∷◌, ◌++◌, drop, set, Some, None, Ok, Err, Option, sym, refl, ap, ◌∙◌, arith, MatchOption}
+use Rattle.std.proofs.lemmas.Bool.{cond-true}
 use Rattle.refusals.specs.declared.Ground.{Ground}
 use Rattle.pools.specs.States.{States, after_any, known}
 use Rattle.calls.specs.declared.answers.Answer.{Answer}
@@ -22,17 +21,10 @@ module _ (st : State) where
   pub refused : (rule : Choice → Outcome) → Bounded st.pool → (x : Refused) → ((ch : Choice) → rule ch ≡ Refuse x) → Did st rule (Answer.Step (Err x)) st
   refused rule b x e = plainly rule b (Refuse x) e refl refl
 
-  pub no_room : (rule : Choice → Outcome) → Bounded st.pool → false ≡ is_roomy st → Did st (λ ch. roomed st (rule ch)) (Answer.Step (Err (record { ground = Ground.QueueFull; place = None }))) st
-  no_room rule b e = refused (λ ch. roomed st (rule ch)) b (record { ground = Ground.QueueFull; place = None }) (λ ch. cond-false (is_roomy st) (rule ch) (refuse Ground.QueueFull) (sym e))
-
   pub in_room : (rule : Choice → Outcome) {a : Answer} {st' : State} → true ≡ is_roomy st → Did st rule a st' → Did st (λ ch. roomed st (rule ch)) a st'
   in_room rule e d =
       let o = rule d.choice in
       did (λ ch. roomed st (rule ch)) d.choice d.fair o (cond-true (is_roomy st) o (refuse Ground.QueueFull) (sym e)) d.answer d.after
-
-  -- the same rule in other words
-  pub likewise : (rule rule' : Choice → Outcome) {a : Answer} {st' : State} → ((ch : Choice) → rule ch ≡ rule' ch) → Did st rule' a st' → Did st rule a st'
-  likewise rule rule' e d = did rule d.choice d.fair (rule' d.choice) (e d.choice) d.answer d.after
 
   -- the state with another pool
   abbrev pub with_pool : States → State
@@ -56,10 +48,6 @@ module _ (st : State) where
   -- a move, as the code makes it: the channel is seized, then the effect settled
   pub moved : (i : ℕ) (e e' : Effect) (o : Option ℕ) (p : States) {r : Report} {st' : State} → ((k : ℕ) → p k ≡ after_any o st.pool k) → e ≡ e' → e'.seized ≡ o → r ≡ reported e → st' ≡ settled (with_pool p) i e → (Answer.Step (Ok r) ≡ answer_of st (Move i e')) × (st' ≡ applied st (Move i e'))
   moved i e e' o p h q s a b = (ap (λ (x : Report). Answer.Step (Ok x)) (a ∙ ap reported q), b ∙ ap (settled (with_pool p) i) q ∙ seized_move p i e' o h s)
-
--- either queue of a roomy gateway has two free places
-pub rooms : (a b : ℕ) → true ≡ (leb 2 a && leb 2 b) → (2 ≤ a) × (2 ≤ b)
-rooms a b e = (grind (arith, nat_tests), grind (arith, nat_tests))
 
 -- what a taking answers and leaves
 pub first_taken : {X : Type 0} (r : Option X) (xs ys : List X) (P : Type 0) → (P → ys ≡ xs) → MatchOption r ((xs ≡ []) × P) (λ m. xs ≡ m ∷ ys) → (r ≡ first xs) × (ys ≡ drop 1 xs)

@@ -10,13 +10,11 @@ use calls::{Call, Timer};
 use desk::{Found, Key, Table};
 use exchange_rules::{asks_for_another, on_expiry, on_message};
 use messages::{CallReference, Channel, Message, MessageType, Part};
-use moves::rejection;
+use moves::{CHANNEL_UNAVAILABLE, rejection};
 use queues::few::Few;
 use refusals::Ground;
 
 const NO_CHANNEL_AVAILABLE: u8 = 34;
-
-const REQUESTED_CHANNEL_UNAVAILABLE: u8 = 44;
 
 const INVALID_CALL_REFERENCE: u8 = 81;
 
@@ -54,7 +52,7 @@ pub fn busy_cause(wish: Option<Channel>) -> u8
     ensures by_the_wish { result ≡ busy_cause wish }
 {
     match wish {
-        Some(wish) if wish.exclusive => REQUESTED_CHANNEL_UNAVAILABLE,
+        Some(wish) if wish.exclusive => CHANNEL_UNAVAILABLE,
         _ => NO_CHANNEL_AVAILABLE,
     }
 }

@@ -8,13 +8,12 @@ ghost use Rattle.desk.specs.Keys.{found_of};
 ghost use Rattle.decisions.specs.Outcomes.{outcome_of, responded, invite_refusal};
 
 use crate::action::Action;
-use calls::{Invite, Response, SipMessage};
+use calls::{Invite, Response};
 use desk::{Found, Key, Table};
+use moves::OK;
 use queues::few::Few;
 use refusals::Ground;
-use sip_rules::{accepts, ack_and_bye, leaves, on_cancel_expiry, on_other};
-
-const OK: u16 = 200;
+use sip_rules::{accepts, ack, ack_and_bye, leaves, on_cancel_expiry, on_other};
 
 /// Whether a status is that of a response.
 pub fn is_status(status: u16) -> bool
@@ -106,10 +105,7 @@ pub fn on_response(table: &Table, response: Response) -> Result<Action, Ground>
         OK => on_ok(table, response),
         201..=299 => Ok(Action::Reply {
             exchange: Few::Zero,
-            sip: Few::One(SipMessage::Ack {
-                number: response.number,
-                dialogue: response.dialogue,
-            }),
+            sip: Few::One(ack(response)),
         }),
         _ => awaited(response, table.find(Key::AwaitedNumber(response.number))),
     }

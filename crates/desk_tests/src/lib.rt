@@ -1,5 +1,5 @@
 //! How a token goes from a trunk into a call of the table and back, over any kind of pool; and examples of it, run as tests.
-// Trunk and table stay two parameters: the gateway holds them as two fields.
+// Trunk and table, and the two parts of a wish, stay parameters: a struct round them would be one that only these tests know.
 #![tactic(auto)]
 
 ghost use Rattle.std.specs.Prelude.{◌≡◌, ℕ, Some, None, slice_set};

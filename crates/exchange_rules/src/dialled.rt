@@ -9,10 +9,10 @@ ghost use Rattle.exchange_rules.specs.Gathering.{awaiting, gathered};
 use calls::{Call, Digits, ExchangeSide};
 use dialling::joined;
 use messages::{Message, MessageType, Part};
-use moves::{Effect, clears_exchange, enters, invites, keeps, ours, redialled, tell};
+use moves::{
+    Effect, INVALID_NUMBER_FORMAT, clears_exchange, enters, invites, keeps, ours, redialled, tell,
+};
 use queues::few::Few;
-
-const INVALID_NUMBER_FORMAT: u8 = 28;
 
 /// The number is whole: CALL PROCEEDING to the exchange, INVITE to SIP.
 pub fn proceeds(call: Call, digits: Digits) -> Effect

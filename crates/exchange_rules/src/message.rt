@@ -10,8 +10,8 @@ use crate::moment::{is_unalerted, is_unconnected, only};
 use calls::{Call, ExchangeSide};
 use messages::{Cause, Message, MessageType, Part};
 use moves::{
-    Effect, answers, clears_sip, code, ends, enters, is_unavailable, keeps, moved, responds,
-    retries, stays, tell,
+    Effect, SERVICE_UNAVAILABLE, answers, clears_sip, code, ends, enters, is_unavailable, keeps,
+    moved, responds, retries, stays, tell,
 };
 use queues::few::Few;
 use refusals::Ground;
@@ -20,8 +20,6 @@ use sides::is_unreleased;
 const RINGING: u16 = 180;
 
 const SESSION_PROGRESS: u16 = 183;
-
-const SERVICE_UNAVAILABLE: u16 = 503;
 
 /// ALERTING: the called party is alerted.
 fn alerted(call: Call) -> Effect

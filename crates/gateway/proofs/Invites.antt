@@ -25,11 +25,3 @@ module _ (ch : Choice) (t d : ℕ) (xs : List ℕ) where
 
   pub dial_refused : (s : ℕ) → Some s ≡ refusal_of xs → dials ch t d xs ≡ responds t s
   dial_refused s e = refused_by (is_nothing xs) (leb (length xs) 20 && all_digits xs) (calls_out t d xs ch.place ch.pick) s e
-
-  taken_by : (a b : Bool) (o : Outcome) → ◌≡◌ {A = Option ℕ} None (cond a (Some 484) (cond b None (Some 404))) → cond a (responds t 484) (cond b o (responds t 404)) ≡ o
-  taken_by true b o e = absurd (let z : ◌≡◌ {A = ℕ} 0 1 = cc in omega arith)
-  taken_by false true o e = refl
-  taken_by false false o e = absurd (let z : ◌≡◌ {A = ℕ} 0 1 = cc in omega arith)
-
-  pub dial_out : None ≡ refusal_of xs → dials ch t d xs ≡ calls_out t d xs ch.place ch.pick
-  dial_out e = taken_by (is_nothing xs) (leb (length xs) 20 && all_digits xs) (calls_out t d xs ch.place ch.pick) e

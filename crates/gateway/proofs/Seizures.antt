@@ -10,7 +10,7 @@ use Rattle.calls.specs.declared.record.Call.{Call}
 use Rattle.calls.specs.declared.sides.ExchangeSide.{ExchangeSide}
 use Rattle.calls.specs.Words.{stage, is_in, is_over}
 use Rattle.calls.specs.Standing.{is_sound, fits, SoundAt}
-use Rattle.calls.specs.Effects.{Effect, Ruling, Refuses, Does, tries_again, on_type, begins, invited, is_whole, heard_digits}
+use Rattle.calls.specs.Effects.{Effect, Ruling, Refuses, Does, tries_again, on_type, begins, is_whole, heard_digits}
 use Rattle.calls.specs.Rules.{State, Outcome, Move, Did, TakeExchange, at, rejects, takes_any, wishes, seats, answer_of, applied}
 use Rattle.calls.specs.declared.answers.Answer.{Answer}
 use Rattle.calls.proofs.Choices.{Bounded, fair_pick, fair_place}
@@ -88,9 +88,6 @@ module _ (places : List (Option Call)) (i : ℕ) (inside : i < 64) (free : get_o
   ready_begins full m n =
       cond_both (is_whole full m (heard_digits m)) _ _ EntersAt
       (λ _. record { inside = inside; enters = refl; leaves = out; sound = refl }) (λ _. record { inside = inside; enters = refl; leaves = out; sound = refl })
-
-  pub ready_invited : (x d : ℕ) (xs : List ℕ) → EntersAt (invited x d xs t.channel)
-  ready_invited x d xs = record { inside = inside; enters = refl; leaves = out; sound = refl }
 
 pub begins_seizes : (full : ℕ) (m : Message Heard) (n c : ℕ) → (begins full m n c).seized ≡ Some c
 begins_seizes full m n c = cond_both (is_whole full m (heard_digits m)) _ _ (λ (e : Effect). e.seized ≡ Some c) (λ _. refl) (λ _. refl)

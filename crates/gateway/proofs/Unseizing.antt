@@ -1,6 +1,6 @@
 -- Rules that seize no channel, and those that leave nothing open.
 use Rattle.std.proofs.Common.{◌≡◌, ℕ, Bool, true, false, cond, ◌&&◌, ◌||◌, eqb, leb, List, Some, None, Option, sym, refl, ap, ◌∙◌, arith}
-use Rattle.std.proofs.lemmas.Bool.{cond-true, cond-false, cond_both}
+use Rattle.std.proofs.lemmas.Bool.{cond-false, cond_both}
 use Rattle.messages.specs.declared.kind.MessageType.{MessageType}
 use Rattle.messages.specs.declared.record.Cause.{Cause}
 use Rattle.messages.specs.declared.record.Message.{Message}
@@ -13,7 +13,7 @@ use Rattle.calls.specs.declared.sides.SipSide.{SipSide}
 use Rattle.calls.specs.declared.sides.Told.{Told}
 use Rattle.calls.specs.Words.{is_in, is_uncleared, is_unreleased, is_running, is_repeated, is_invite_sent, is_cancel_sent, holds_dialogue}
 use Rattle.calls.specs.Effects.{Effect, ExchangeMove, Ruling, Refuses, Does, only, clears_exchange, ours, cause_for, is_unavailable, is_too_many, is_empty_whole, is_whole, is_nothing, meant, joined, collects, tries_again, on_type, on_timer, on_expiry, on_cancel_expiry, progresses, rings, provisional, accepts}
-use Rattle.calls.specs.Rules.{State, Choice, Move, Found, at, at_call, another, on_leave, on_ok, on_other, uncalled, on_setup, seek, by_live_number, by_awaited_number}
+use Rattle.calls.specs.Rules.{State, Choice, Found, at, at_call, another, on_leave, on_ok, on_other, uncalled, on_setup, seek, by_live_number, by_awaited_number}
 use Rattle.decisions.specs.Outcomes.{responded, turned_away, is_release_complete, wants_another}
 use Rattle.gateway.proofs.Channels.{Unseizing}
 
@@ -142,22 +142,6 @@ module _ (full : ℕ) (pick : Option ℕ) (m : Message Heard) (k : Call) where
 
   pub unpicked : wants_another m k ≡ false → on_type full pick m k m.kind ≡ on_type full None m k m.kind
   unpicked e = unpicked_type m.kind e
-
-  retried_type : (kind : MessageType) → (is_release_complete kind && asks) ≡ true → on_type full pick m k kind ≡ Does (tries_again pick k)
-  retried_type MessageType.Alerting e = absurd (grind arith)
-  retried_type MessageType.CallProceeding e = absurd (grind arith)
-  retried_type MessageType.Progress e = absurd (grind arith)
-  retried_type MessageType.Setup e = absurd (grind arith)
-  retried_type MessageType.Connect e = absurd (grind arith)
-  retried_type MessageType.SetupAcknowledge e = absurd (grind arith)
-  retried_type MessageType.ConnectAcknowledge e = absurd (grind arith)
-  retried_type MessageType.Disconnect e = absurd (grind arith)
-  retried_type MessageType.Release e = absurd (grind arith)
-  retried_type MessageType.ReleaseComplete e = ap Does (cond-true asks (tries_again pick k) _ e)
-  retried_type MessageType.Information e = absurd (grind arith)
-
-  pub retried : (i : ℕ) → wants_another m k ≡ true → at i (on_type full pick m k m.kind) ≡ Move i (tries_again pick k)
-  retried i e = ap (at i) (retried_type m.kind e)
 
 pub turned_away_lem : (st : State) (ch : Choice) (m : Message Heard) (kind : MessageType) → is_setup kind ≡ false → uncalled st ch m kind ≡ turned_away m kind
 turned_away_lem st ch m MessageType.Alerting e = refl

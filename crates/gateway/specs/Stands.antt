@@ -1,16 +1,10 @@
 -- What a gateway and its two queues stand for among the states of the rules.
 use Rattle.std.specs.Prelude.{◌≡◌, ℕ, ◌-◌, ◌<◌, ◌≤◌, Bool, true, ◌&&◌, List, [], length, Some, None, Option, nat_le, slice_index_or}
-use Rattle.refusals.specs.declared.Ground.{Ground}
 use Rattle.messages.specs.declared.record.Channel.{Channel}
-use Rattle.messages.specs.declared.record.Message.{Message}
 use Rattle.pools.specs.declared.pool.Pool.{Ghosts}
 use Rattle.pools.specs.States.{States, idle, AnyWasIdle}
-use Rattle.queues.specs.declared.queue.Queue.{Queue}
 use Rattle.queues.specs.Waiting.{waiting, room}
-use Rattle.calls.specs.declared.answers.Refused.{Refused}
-use Rattle.calls.specs.declared.outgoing.SipMessage.{SipMessage}
 use Rattle.calls.specs.declared.record.Call.{Call}
-use Rattle.calls.specs.declared.record.Digits.{Digits}
 use Rattle.calls.specs.Standing.{is_sound_at}
 use Rattle.calls.specs.Rules.{State, Outcome, Refuse, Reply, Move, TookExchange, TookSip}
 use Rattle.calls.specs.Run.{Opening, Run}

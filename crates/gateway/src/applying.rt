@@ -36,8 +36,7 @@ impl<P: Pool> Gateway<P> {
         ensures report_of_the_effect { result ≡ reported (effect_of effect) }
         ensures effect_settled { state_of P.Pool.state self.new queues.new ≡ settled (state_of P.Pool.state self.old queues.old) place (effect_of effect) }
     {
-        queues.exchange.add_few(effect.exchange);
-        queues.sip.add_few(effect.sip);
+        queues.send(effect.exchange, effect.sip);
         self.next = following(effect.numbered, self.next);
         let left = self.table.change(place, effect.after, token);
         give_back(&mut self.trunk, left);

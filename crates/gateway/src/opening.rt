@@ -20,7 +20,7 @@ impl<P: Pool> Gateway<P> {
         ensures with_the_settings { IfOk result (λ g. (g.next ≡ Some first) × (g.full ≡ full)) }
         ensures history_begins_empty { IfOk result (λ g. Begins P.Pool.state g) }
     {
-        if full < 1 || full > 20 || first < 1 {
+        if !(1..=20).contains(&full) || first < 1 {
             return Err(Ground::SettingOutOfRange);
         }
         Ok(Gateway {

@@ -1,5 +1,6 @@
 //! The two outgoing queues, which always go together, and answers that touch no call.
 ghost use Rattle.std.specs.Prelude.{◌≡◌, ◌≤◌, [], ◌∷◌, ◌++◌, length, true, false, MatchResult};
+ghost use Rattle.queues.specs.Few.{listed};
 ghost use Rattle.queues.specs.Waiting.{waiting, room, free};
 ghost use Rattle.calls.specs.declared.outgoing.SipMessage.TheVariants.{Response};
 ghost use Rattle.refusals.specs.declared.Ground.TheVariants.{QueueFull};
@@ -11,14 +12,15 @@ ghost use Rattle.gateway.specs.Stands.{has_two_places};
 use calls::{Digits, Refused, Report, SipMessage};
 use messages::{CallReference, Message};
 use moves::rejection;
+use queues::few::Few;
 use queues::queue::Queue;
 use refusals::Ground;
 
 /// What waits for the exchange and what waits for SIP, each in places that the caller lends.
 #[derive(Drop)]
 pub struct Outgoing<'a> {
-    pub(crate) exchange: Queue<'a, Message<Digits>>,
-    pub(crate) sip: Queue<'a, SipMessage>,
+    pub exchange: Queue<'a, Message<Digits>>,
+    pub sip: Queue<'a, SipMessage>,
 }
 
 impl<'a> Outgoing<'a> {
@@ -34,6 +36,16 @@ impl<'a> Outgoing<'a> {
             exchange: Queue::new(exchange_places),
             sip: Queue::new(sip_places),
         }
+    }
+
+    /// Lets these messages wait behind the others, in their order.
+    pub(crate) fn send(&mut self, exchange: Few<Message<Digits>>, sip: Few<SipMessage>)
+        requires room { has_two_places self.old ≡ true }
+        ensures rooms_stay { (room self.new.exchange ≡ room self.old.exchange) × (room self.new.sip ≡ room self.old.sip) }
+        ensures wait_last { (waiting self.new.exchange ≡ waiting self.old.exchange ++ listed exchange) × (waiting self.new.sip ≡ waiting self.old.sip ++ listed sip) }
+    {
+        self.exchange.add_few(exchange);
+        self.sip.add_few(sip);
     }
 
     // That there is room stays a condition of what follows: as a fact of a struct round the queues the check asks for it once more

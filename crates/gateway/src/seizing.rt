@@ -19,14 +19,11 @@ use desk::{Found, Token, Trunk};
 use dialling::Dialled;
 use exchange_rules::{DialledSetup, begins, tries_again};
 use messages::{Channel, Message, Part};
+use moves::{INVALID_NUMBER_FORMAT, SERVICE_UNAVAILABLE};
 use pools::Pool;
 use sip_rules::invited;
 
-const INVALID_NUMBER_FORMAT: u8 = 28;
-
 const SWITCHING_EQUIPMENT_CONGESTION: u8 = 42;
-
-const SERVICE_UNAVAILABLE: u16 = 503;
 
 /// The channel of a token, if there is one.
 fn channel_of(token: &Option<Token>) -> Option<u8>

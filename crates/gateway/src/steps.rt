@@ -38,8 +38,7 @@ impl<P: Pool> Gateway<P> {
     {
         match decision? {
             Action::Reply { exchange, sip } => {
-                queues.exchange.add_few(exchange);
-                queues.sip.add_few(sip);
+                queues.send(exchange, sip);
                 Ok(Report::default())
             }
             Action::Move { place, effect } => Ok(self.apply(queues, place, effect, None)),
@@ -205,6 +204,7 @@ impl<P: Pool> Gateway<P> {
     /// The oldest message for the exchange is taken.
     pub fn take_exchange(&self, queues: &mut Outgoing<'_>) -> Option<Message<Digits>>
         ensures steps_by_the_rules { Stepped (state_of P.Pool.state self.now queues.old) TakeExchange (took_exchange result) (state_of P.Pool.state self.now queues.new) }
+        ensures leaves_the_other_queue { queues.new.sip ≡ queues.old.sip }
     {
         queues.exchange.take()
     }
@@ -212,6 +212,7 @@ impl<P: Pool> Gateway<P> {
     /// The oldest message for SIP is taken.
     pub fn take_sip(&self, queues: &mut Outgoing<'_>) -> Option<SipMessage>
         ensures steps_by_the_rules { Stepped (state_of P.Pool.state self.now queues.old) TakeSip (took_sip result) (state_of P.Pool.state self.now queues.new) }
+        ensures leaves_the_other_queue { queues.new.exchange ≡ queues.old.exchange }
     {
         queues.sip.take()
     }

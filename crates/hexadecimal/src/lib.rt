@@ -22,7 +22,8 @@ fn without_blanks(heap: Global, text: &[u8]) -> Result<Vec<u8>, AllocError>
         .collect(heap)
 }
 
-/// The octets that the text stands for, or `None` where it is not hexadecimal or has half an octet.
+/// The octets that the text stands for, or `None` where it is not hexadecimal or has half an octet. All but the blanks is copied
+/// first, so want of memory comes before either.
 pub fn octets_in(heap: Global, text: &[u8]) -> Result<Option<Vec<u8>>, AllocError>
     ensures two_digits_an_octet { IfOk result (λ o. option_map vec_items o ≡ octets_in text.now) }
 {

@@ -1,6 +1,7 @@
 use std::fmt;
 
-/// Octets in upper case hexadecimal without spaces. A type of its own, since a slice is not shown so.
+/// Octets in upper case hexadecimal without spaces. A type of its own: a slice is not shown so, and the kit's
+/// `hex` would put it on the heap first.
 #[derive(Clone, Copy)]
 pub struct OctetsText<'a> {
     pub octets: &'a [u8],

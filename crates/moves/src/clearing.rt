@@ -5,7 +5,11 @@ ghost use Rattle.calls.specs.Effects.{ours as own_cause, code as status_for, cau
 use causes::{REMOTE_PRIVATE_NETWORK, cause_of, counted_cause, status_of};
 use messages::Cause;
 
-const CHANNEL_UNAVAILABLE: u8 = 44;
+/// The requested channel is not available.
+pub const CHANNEL_UNAVAILABLE: u8 = 44;
+
+/// The called number is no number.
+pub const INVALID_NUMBER_FORMAT: u8 = 28;
 
 /// A cause of the gateway's own: it comes from the private network that serves the remote user.
 pub fn ours(value: u8) -> Cause
@@ -27,7 +31,7 @@ pub fn code(cause: Option<Cause>) -> u16
     })
 }
 
-/// The cause for a final response that refuses.
+/// The cause for a final response that refuses. Stays beside `cause_of`: it promises the record that the rules name.
 pub fn cause_for(status: u16) -> Cause
     ensures cause_of_the_status { result ≡ cause_for status }
 {

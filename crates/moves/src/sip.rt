@@ -8,7 +8,9 @@ use crate::effect::SipMove;
 use calls::{Call, Digits, SipMessage, SipSide, Told};
 use queues::few::Few;
 
-const OK: u16 = 200;
+pub const OK: u16 = 200;
+
+pub const SERVICE_UNAVAILABLE: u16 = 503;
 
 const REQUEST_TERMINATED: u16 = 487;
 

@@ -38,7 +38,7 @@ pub fn read_header(octets: &[u8]) -> Result<Header<'_>, Misread>
     };
     let reference = CallReference {
         flag: *high >= 0x80,
-        number: (*high % 0x80) as u16 * 256 + *low as u16,
+        number: u16::from_be_bytes([*high % 0x80, *low]),
     };
     if is_bad(reference, kind) {
         return refuse(Ground::BadReference, 2);

@@ -5,7 +5,7 @@ ghost use Rattle.gateway.specs.Stands.{state_of};
 ghost use Rattle.runs.specs.Events.{event_of};
 
 use crate::event::Event;
-use calls::{Answer, Invite, Response};
+use calls::{Answer, Invite};
 use gateway::{Gateway, Outgoing};
 use pools::Pool;
 use std::alloc::{AllocError, Global};
@@ -30,20 +30,7 @@ fn step<P: Pool>(gateway: &mut Gateway<P>, event: &Event, queues: &mut Outgoing<
         }
         Event::Cancel { transaction } => Answer::Step(gateway.cancel(*transaction, queues)),
         Event::Bye { dialogue } => Answer::Step(gateway.bye(*dialogue, queues)),
-        Event::Response {
-            number,
-            status,
-            dialogue,
-            media,
-        } => {
-            let response = Response {
-                number: *number,
-                status: *status,
-                dialogue: *dialogue,
-                media: *media,
-            };
-            Answer::Step(gateway.response(response, queues))
-        }
+        Event::Response(response) => Answer::Step(gateway.response(*response, queues)),
         Event::Expiry { timer, reference } => {
             Answer::Step(gateway.expiry(*timer, *reference, queues))
         }

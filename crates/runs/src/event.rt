@@ -1,4 +1,4 @@
-use calls::Timer;
+use calls::{Response, Timer};
 use messages::CallReference;
 
 /// What comes to a gateway, with the octets that it brings.
@@ -8,6 +8,7 @@ pub enum Event {
     Exchange {
         octets: Vec<u8>,
     },
+    /// Its fields one by one: the digits are owned here, and lent to the step.
     Invite {
         transaction: u64,
         dialogue: u64,
@@ -19,13 +20,7 @@ pub enum Event {
     Bye {
         dialogue: u64,
     },
-    /// A response to the INVITE with this number.
-    Response {
-        number: u64,
-        status: u16,
-        dialogue: u64,
-        media: bool,
-    },
+    Response(Response),
     /// A timer of the exchange side, by the reference as the exchange sends it.
     Expiry {
         timer: Timer,

@@ -25,7 +25,7 @@ fn fails(call: Call, cause: Cause) -> Effect
     moved(call, exchange, becomes(SipSide::None, Few::Zero))
 }
 
-/// The ACK of a 200.
+/// The ACK of a response from 200 to 299.
 pub fn ack(response: Response) -> SipMessage
     ensures by_number_and_dialogue { result ≡ SipMessage.Ack response.number response.dialogue }
 {

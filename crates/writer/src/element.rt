@@ -8,7 +8,8 @@ use refusals::Ground;
 /// The most contents that a length octet can count.
 const MOST: usize = 255;
 
-/// An element that is being written: its octets from the first on, and how many of its contents are put.
+/// An element that is being written: its octets from the first on, and how many of its contents are put. A count beside a part, since
+/// the buffer is the caller's.
 struct Guard<'a> {
     bytes: &'a mut [u8],
     put: usize,

@@ -24,10 +24,11 @@ pub fn put_header(buffer: &mut [u8], reference: CallReference, kind: MessageType
     ensures after { buffer.new ≡ head_octets reference kind ++ drop 5 buffer.old }
 {
     let flag = if reference.flag { 0x80 } else { 0x00 };
+    let [high, low] = reference.number.to_be_bytes();
     buffer[0] = 0x08;
     buffer[1] = 0x02;
-    buffer[2] = flag + (reference.number / 256) as u8;
-    buffer[3] = (reference.number % 256) as u8;
+    buffer[2] = flag + high;
+    buffer[3] = low;
     buffer[4] = u8::from(kind);
 }
 
