@@ -1,15 +1,11 @@
 ghost use Rattle.std.specs.Prelude.{◌≡◌, IfOk};
 ghost use Rattle.lines.specs.Verdicts.{is_remark, verdict, verdict_on};
 
-use crate::shown::OctetsText;
+use crate::shown::MessageText;
 use hexadecimal::octets_in;
 use messages::{Message, Part};
 use reader::read;
-use round_trip::write_checked;
 use std::alloc::{AllocError, Global};
-
-/// More octets than any message takes that is written.
-const ROOM: usize = 64;
 
 /// What a line of input gets. Three cases and no `Result`: what is no hexadecimal is counted as neither a message nor a refusal.
 #[derive(Drop)]
@@ -26,21 +22,9 @@ pub fn is_remark(line: &[u8]) -> bool
     matches!(line, [] | [b'#', ..])
 }
 
-/// The line of a message: its fields, and its octets as they are written from those fields.
+/// The line of a message.
 fn told_of(heap: Global, message: Message<Part<'_>>) -> Result<String, AllocError> {
-    let mut buffer = [0u8; ROOM];
-    match write_checked(&mut buffer, Message::from(message)) {
-        Ok(size) => {
-            let octets = OctetsText {
-                octets: &buffer[0..size],
-            };
-            format!(in heap; "= {message} octets={octets}")
-        }
-        Err(ground) => {
-            let number = ground.number();
-            format!(in heap; "= {message} unwritable {number}")
-        }
-    }
+    format!(in heap; "= {}", MessageText { message })
 }
 
 /// What a line of hexadecimal octets gets.

@@ -5,4 +5,4 @@ mod answer;
 mod shown;
 
 pub use answer::{Answer, answer_to, is_remark};
-pub use shown::OctetsText;
+pub use shown::{MessageText, OctetsText};

@@ -1,0 +1,143 @@
+//! The play of one opened gateway.
+ghost use Rattle.std.specs.Prelude.{map, IfOk};
+ghost use Rattle.calls.specs.Laws.{RunsOn};
+ghost use Rattle.gateway.specs.Stands.{state_of};
+ghost use Rattle.runs.specs.Events.{event_of};
+
+use crate::command::Command;
+use crate::ledger::Ledger;
+use crate::script::Line;
+use crate::shown::{AnswerText, CallText};
+use calls::{Answer, Call};
+use gateway::{Gateway, Outgoing};
+use pools::Pool;
+use runs::{Event, run};
+use std::alloc::{AllocError, Global};
+use std::{io, slice};
+
+/// As many calls as a gateway has at most.
+const MOST_CALLS: usize = 64;
+
+/// A gateway with its queues, and what has been counted of it so far.
+#[derive(Drop)]
+pub(crate) struct Play<'a, P: Pool + Drop> {
+    gateway: Gateway<P>,
+    queues: Outgoing<'a>,
+    // All the places of either queue: a queue itself tells only how many are free.
+    exchange_places: usize,
+    sip_places: usize,
+    ledger: Ledger,
+}
+
+impl<'a, P: Pool + Drop> Play<'a, P> {
+    /// A play that begins, with queues in which nothing waits.
+    pub(crate) fn new(heap: Global, gateway: Gateway<P>, queues: Outgoing<'a>) -> Play<'a, P> {
+        let exchange_places = queues.exchange.free_places();
+        let sip_places = queues.sip.free_places();
+        Play {
+            gateway,
+            queues,
+            exchange_places,
+            sip_places,
+            ledger: Ledger::new(heap),
+        }
+    }
+
+    /// Runs the events and notes what comes of them.
+    fn run(&mut self, heap: Global, events: &[Event]) -> Result<Vec<Answer>, AllocError>
+        ensures every_history_goes_on_and_the_laws_hold { IfOk result (λ answers. RunsOn (state_of P.Pool.state self.old.gateway self.old.queues) (map event_of events.now) answers.items (state_of P.Pool.state self.new.gateway self.new.queues)) }
+    {
+        let answers = run(&mut self.gateway, heap, events, &mut self.queues)?;
+        self.ledger.note_all(events, answers.as_slice())?;
+        Ok(answers)
+    }
+
+    /// As many takings as messages wait, those of the exchange first.
+    fn takings(&self, heap: Global) -> Result<Vec<Event>, AllocError> {
+        let exchange = self
+            .exchange_places
+            .saturating_sub(self.queues.exchange.free_places());
+        let sip = self
+            .sip_places
+            .saturating_sub(self.queues.sip.free_places());
+        let for_exchange = (0..exchange).map(|_| Event::TakeExchange);
+        let for_sip = (0..sip).map(|_| Event::TakeSip);
+        for_exchange.chain(for_sip).collect(heap)
+    }
+
+    /// Takes all that waits.
+    fn drain(&mut self, heap: Global) -> Result<Vec<Answer>, AllocError> {
+        let takings = self.takings(heap)?;
+        self.run(heap, takings.as_slice())
+    }
+
+    /// The calls in the order of their places.
+    fn calls(&self, heap: Global) -> Result<Vec<Call>, AllocError> {
+        (0..MOST_CALLS)
+            .filter_map(|place| self.gateway.call_at(place))
+            .collect(heap)
+    }
+
+    fn print_drained(&mut self, rt: &(impl Print + AllocGlobal)) -> io::Result<()> {
+        let answers = self.drain(rt.alloc())?;
+        if answers.is_empty() {
+            return println!(rt; "= none");
+        }
+        print_answers(rt, answers.as_slice())
+    }
+
+    fn print_calls(&self, rt: &(impl Print + AllocGlobal)) -> io::Result<()> {
+        let calls = self.calls(rt.alloc())?;
+        if calls.is_empty() {
+            return println!(rt; "  no calls");
+        }
+        for call in calls.iter() {
+            println!(rt; "  {}", CallText(*call))?;
+        }
+        Ok(())
+    }
+
+    fn obey(&mut self, rt: &(impl Print + AllocGlobal), command: &Command) -> io::Result<()> {
+        match command {
+            Command::Event(event) => {
+                let answers = self.run(rt.alloc(), slice::from_ref(event))?;
+                print_answers(rt, answers.as_slice())
+            }
+            Command::Drain => self.print_drained(rt),
+            Command::Calls => self.print_calls(rt),
+            // The lines up to the next opening are one play: none comes here.
+            Command::Open(_) => Ok(()),
+        }
+    }
+
+    /// Plays the lines that stand below the opening.
+    pub(crate) fn play(
+        &mut self,
+        rt: &(impl Print + AllocGlobal),
+        lines: &[Line<'_>],
+    ) -> io::Result<()> {
+        for line in lines {
+            line.echo(rt)?;
+            if let Some(command) = line.command(rt)? {
+                self.obey(rt, command)?;
+            }
+        }
+        Ok(())
+    }
+
+    /// The ledger. What still waits was put into its queue, so it counts.
+    pub(crate) fn close(&mut self, rt: &(impl Print + AllocGlobal)) -> io::Result<()> {
+        self.drain(rt.alloc())?;
+        for call in self.calls(rt.alloc())?.iter() {
+            self.ledger.note_call(call);
+        }
+        println!(rt; "{}", self.ledger)
+    }
+}
+
+fn print_answers(rt: &impl Print, answers: &[Answer]) -> io::Result<()> {
+    for answer in answers {
+        println!(rt; "= {}", AnswerText(*answer))?;
+    }
+    Ok(())
+}
