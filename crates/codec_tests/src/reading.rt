@@ -1,4 +1,4 @@
-use lines::{Answer, answer_to};
+use message_text::{Answer, answer_to};
 use std::alloc::Global;
 use std::process::Abort;
 use std::test::Fail;

@@ -13,7 +13,7 @@ use Rattle.calls.specs.Effects.{is_unavailable}
 use Rattle.pools.specs.declared.channel.ChannelState.TheVariants.{Unknown}
 use Rattle.calls.specs.Rules.{Outcome, Found, State, refuse, rejects, on_response}
 use Rattle.calls.specs.Rules as rules
-use Rattle.moves.specs.Moves.{effect_of}
+use Rattle.effects.specs.Moves.{effect_of}
 use Rattle.decisions.specs.declared.action.Action.{Action}
 
 abbrev pub outcome_of : Result Action Ground → Outcome

@@ -1,9 +1,9 @@
 ghost use Rattle.std.specs.Prelude.{◌≡◌};
 
 use calls::{Digits, SipMessage};
-use desk::Found;
+use call_table::Found;
 use messages::Message;
-use moves::Effect;
+use effects::Effect;
 use queues::few::Few;
 
 /// What an event that seizes no channel brings, where it is not refused.

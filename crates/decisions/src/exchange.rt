@@ -7,10 +7,10 @@ ghost use Rattle.decisions.specs.Outcomes.{outcome_of, turned_away, wants_anothe
 
 use crate::action::Action;
 use calls::{Call, Timer};
-use desk::{Found, Key, Table};
+use call_table::{Found, Key, Table};
 use exchange_rules::{asks_for_another, on_expiry, on_message};
 use messages::{CallReference, Channel, Message, MessageType, Part};
-use moves::{CHANNEL_UNAVAILABLE, rejection};
+use effects::{CHANNEL_UNAVAILABLE, rejection};
 use queues::few::Few;
 use refusals::Ground;
 

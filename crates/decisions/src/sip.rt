@@ -4,13 +4,13 @@ ghost use Rattle.std.specs.Result.{result_err};
 ghost use Rattle.calls.specs.Words.{holds_dialogue};
 ghost use Rattle.calls.specs.Effects.{on_cancel_expiry};
 ghost use Rattle.calls.specs.Rules.{seek, by_transaction, by_number, at_call, on_leave, another, on_ok, on_other, is_status};
-ghost use Rattle.desk.specs.Keys.{found_of};
+ghost use Rattle.call_table.specs.Keys.{found_of};
 ghost use Rattle.decisions.specs.Outcomes.{outcome_of, responded, invite_refusal};
 
 use crate::action::Action;
 use calls::{Invite, Response};
-use desk::{Found, Key, Table};
-use moves::OK;
+use call_table::{Found, Key, Table};
+use effects::OK;
 use queues::few::Few;
 use refusals::Ground;
 use sip_rules::{accepts, ack, ack_and_bye, leaves, on_cancel_expiry, on_other};

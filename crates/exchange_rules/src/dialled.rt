@@ -3,13 +3,13 @@
 ghost use Rattle.std.specs.Prelude.{◌≡◌, []};
 ghost use Rattle.calls.specs.Effects.{proceeds as proceeding, spurns as spurning, collects as collecting, joined as joining, heard_digits};
 ghost use Rattle.reader.specs.Seen.{seen_record};
-ghost use Rattle.moves.specs.Moves.{effect_of};
+ghost use Rattle.effects.specs.Moves.{effect_of};
 ghost use Rattle.exchange_rules.specs.Gathering.{awaiting, gathered};
 
 use calls::{Call, Digits, ExchangeSide};
-use dialling::joined;
+use digits::joined;
 use messages::{Message, MessageType, Part};
-use moves::{
+use effects::{
     Effect, INVALID_NUMBER_FORMAT, clears_exchange, enters, invites, keeps, ours, redialled, tell,
 };
 use queues::few::Few;

@@ -1,15 +1,15 @@
 //! The expiry of a timer of the exchange side.
 ghost use Rattle.std.specs.Prelude.{◌≡◌};
 ghost use Rattle.calls.specs.Effects.{gives_up, on_timer, on_expiry};
-ghost use Rattle.moves.specs.Moves.{effect_of, ruling_of};
+ghost use Rattle.effects.specs.Moves.{effect_of, ruling_of};
 
 use crate::dialled::{proceeds, spurns};
 use calls::{Call, Timer};
-use dialling::is_nothing;
-use moves::{Effect, clears_exchange, clears_sip, ends, keeps, moved, ours, releases};
+use digits::is_nothing;
+use effects::{Effect, clears_exchange, clears_sip, ends, keeps, moved, ours, releases};
 use queues::few::Few;
 use refusals::Ground;
-use sides::{is_repeated, is_running};
+use call_states::{is_repeated, is_running};
 
 const RECOVERY_ON_TIMER_EXPIRY: u8 = 102;
 

@@ -3,19 +3,19 @@ ghost use Rattle.std.specs.Prelude.{◌≡◌, ◌&&◌, ◌∷◌, []};
 ghost use Rattle.calls.specs.Words.{is_in};
 ghost use Rattle.calls.specs.Effects.{moved as moving, stays as staying, enters as entering, keeps as keeping, responds_from, answers_from, tell as telling, tries_again, disconnected as disconnecting, released as releasing, completed as completing, is_unavailable, on_type};
 ghost use Rattle.reader.specs.Seen.{seen_record};
-ghost use Rattle.moves.specs.Moves.{effect_of, ruling_of};
+ghost use Rattle.effects.specs.Moves.{effect_of, ruling_of};
 
 use crate::dialled::collects;
 use crate::moment::{is_unalerted, is_unconnected, only};
 use calls::{Call, ExchangeSide};
 use messages::{Cause, Message, MessageType, Part};
-use moves::{
+use effects::{
     Effect, SERVICE_UNAVAILABLE, answers, clears_sip, code, ends, enters, is_unavailable, keeps,
     moved, responds, retries, stays, tell,
 };
 use queues::few::Few;
 use refusals::Ground;
-use sides::is_unreleased;
+use call_states::is_unreleased;
 
 const RINGING: u16 = 180;
 

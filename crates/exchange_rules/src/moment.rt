@@ -2,10 +2,10 @@
 ghost use Rattle.std.specs.Prelude.{◌≡◌};
 ghost use Rattle.calls.specs.Words.{from_to};
 ghost use Rattle.calls.specs.Effects.{only as only_then};
-ghost use Rattle.moves.specs.Moves.{effect_of, ruling_of};
+ghost use Rattle.effects.specs.Moves.{effect_of, ruling_of};
 
 use calls::ExchangeSide;
-use moves::Effect;
+use effects::Effect;
 use refusals::Ground;
 
 /// In its time the effect; else it is not the time for it.

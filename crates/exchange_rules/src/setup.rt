@@ -2,13 +2,13 @@
 ghost use Rattle.std.specs.Prelude.{◌≡◌};
 ghost use Rattle.calls.specs.Effects.{heard_digits, setup_call, is_whole, begins_proceeding, begins_collecting, begins as beginning};
 ghost use Rattle.reader.specs.Seen.{seen_record};
-ghost use Rattle.moves.specs.Moves.{effect_of};
+ghost use Rattle.effects.specs.Moves.{effect_of};
 
 use crate::dialled::heard_digits;
 use calls::{Call, ExchangeSide, SipMessage, SipSide, Told};
-use dialling::{Dialled, recorded};
+use digits::{Dialled, recorded};
 use messages::{Message, MessageType, Part};
-use moves::{Effect, answers_setup, made};
+use effects::{Effect, answers_setup, made};
 use queues::few::Few;
 
 /// A SETUP with at most 20 digits.

@@ -9,8 +9,8 @@ use Rattle.calls.specs.Effects.{Effect}
 use Rattle.calls.specs.Rules.{State, Event, Outcome, Refuse, Reply, Move, TookExchange, TookSip}
 use Rattle.calls.proofs.Sounds.{sound_tested}
 use Rattle.calls.proofs.Steps.{Lawful}
-use Rattle.desk.specs.Tokens.{channel_of, token_of}
-use Rattle.desk.specs.Records.{holding, MayHold}
+use Rattle.call_table.specs.Tokens.{channel_of, token_of}
+use Rattle.call_table.specs.Records.{holding, MayHold}
 use Rattle.gateway.specs.Stands.{Ready, Possible}
 
 same : (a : ℕ) → eqb a a ≡ true

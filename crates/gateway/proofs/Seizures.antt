@@ -19,10 +19,10 @@ use Rattle.calls.proofs.Dids.{did}
 use Rattle.calls.proofs.Locals.{Keeps, tries_again_lem, on_type_lem}
 use Rattle.calls.proofs.Places.{everywhere_at}
 use Rattle.calls.proofs.Sounds.{sound_everywhere, sound_tested}
-use Rattle.desk.specs.declared.token.Token.{Token}
-use Rattle.desk.specs.Tokens.{channel_of, token_of}
-use Rattle.desk.specs.Records.{holding}
-use Rattle.desk.specs.Wishes.{WishGets}
+use Rattle.call_table.specs.declared.token.Token.{Token}
+use Rattle.call_table.specs.Tokens.{channel_of, token_of}
+use Rattle.call_table.specs.Records.{holding}
+use Rattle.call_table.specs.Wishes.{WishGets}
 use Rattle.decisions.specs.Outcomes.{busy_cause, wants_another}
 use Rattle.gateway.specs.Stands.{Ready, Possible, Granted}
 use Rattle.gateway.proofs.Channels.{Unseizing, ready_kept}

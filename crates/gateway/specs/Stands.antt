@@ -8,10 +8,10 @@ use Rattle.calls.specs.declared.record.Call.{Call}
 use Rattle.calls.specs.Standing.{is_sound_at}
 use Rattle.calls.specs.Rules.{State, Outcome, Refuse, Reply, Move, TookExchange, TookSip}
 use Rattle.calls.specs.Run.{Opening, Run}
-use Rattle.desk.specs.declared.token.Token.{Token}
-use Rattle.desk.specs.Tokens.{channel_of}
-use Rattle.desk.specs.Records.{Enters, left}
-use Rattle.desk.specs.Wishes.{WishGets}
+use Rattle.call_table.specs.declared.token.Token.{Token}
+use Rattle.call_table.specs.Tokens.{channel_of}
+use Rattle.call_table.specs.Records.{Enters, left}
+use Rattle.call_table.specs.Wishes.{WishGets}
 use Rattle.gateway.specs.declared.gateway.Gateway.{Gateway}
 use Rattle.gateway.specs.declared.outgoing.Outgoing.{Outgoing}
 

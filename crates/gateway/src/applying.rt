@@ -1,15 +1,15 @@
 //! The one place where effects are applied.
 ghost use Rattle.std.specs.Prelude.{◌≡◌, ℕ, true};
 ghost use Rattle.calls.specs.Rules.{is_roomy, reported, freed, settled};
-ghost use Rattle.desk.specs.Tokens.{channel_of};
-ghost use Rattle.moves.specs.Moves.{effect_of};
+ghost use Rattle.call_table.specs.Tokens.{channel_of};
+ghost use Rattle.effects.specs.Moves.{effect_of};
 ghost use Rattle.gateway.specs.Stands.{state_of, Ready};
 
 use crate::gateway::Gateway;
 use crate::outgoing::Outgoing;
 use calls::Report;
-use desk::{Token, Trunk};
-use moves::Effect;
+use call_table::{Token, Trunk};
+use effects::Effect;
 use pools::Pool;
 use sip_rules::following;
 

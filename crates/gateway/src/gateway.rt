@@ -1,7 +1,7 @@
 ghost use Rattle.std.specs.Prelude.{◌≡◌, true};
 ghost use Rattle.calls.specs.Standing.{is_sound};
 
-use desk::{Table, Trunk};
+use call_table::{Table, Trunk};
 use pools::Pool;
 
 /// The calls between an exchange and SIP, over a pool of channels of any kind.

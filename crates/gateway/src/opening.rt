@@ -5,7 +5,7 @@ ghost use Rattle.gateway.specs.Stands.{InRange, Begins};
 
 use crate::gateway::Gateway;
 use calls::Call;
-use desk::{Table, Trunk};
+use call_table::{Table, Trunk};
 use pools::Pool;
 use refusals::Ground;
 

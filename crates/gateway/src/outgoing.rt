@@ -6,12 +6,12 @@ ghost use Rattle.calls.specs.declared.outgoing.SipMessage.TheVariants.{Response}
 ghost use Rattle.refusals.specs.declared.Ground.TheVariants.{QueueFull};
 ghost use Rattle.calls.specs.Refusing.{placeless};
 ghost use Rattle.calls.specs.Rules.{quiet as quiet_report};
-ghost use Rattle.moves.specs.Answering.{rejecting};
+ghost use Rattle.effects.specs.Answering.{rejecting};
 ghost use Rattle.gateway.specs.Stands.{has_two_places};
 
 use calls::{Digits, Refused, Report, SipMessage};
 use messages::{CallReference, Message};
-use moves::rejection;
+use effects::rejection;
 use queues::few::Few;
 use queues::queue::Queue;
 use refusals::Ground;

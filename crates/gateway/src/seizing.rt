@@ -6,8 +6,8 @@ ghost use Rattle.calls.specs.declared.sides.ExchangeSide.TheVariants.{SetupSent}
 ghost use Rattle.calls.specs.Words.{is_in};
 ghost use Rattle.calls.specs.Effects.{tries_again};
 ghost use Rattle.calls.specs.Rules.{Did, Move, calls_out, wishes, on_setup, is_roomy};
-ghost use Rattle.desk.specs.Keys.{Within};
-ghost use Rattle.desk.specs.Tokens.{channel_of};
+ghost use Rattle.call_table.specs.Keys.{Within};
+ghost use Rattle.call_table.specs.Tokens.{channel_of};
 ghost use Rattle.reader.specs.Seen.{seen_record};
 ghost use Rattle.gateway.specs.Stands.{state_of, Granted};
 
@@ -15,11 +15,11 @@ use crate::gateway::Gateway;
 use crate::outgoing::{Outgoing, reject, respond};
 use calls::{Invite, Report};
 use decisions::busy_cause;
-use desk::{Found, Token, Trunk};
-use dialling::Dialled;
+use call_table::{Found, Token, Trunk};
+use digits::Dialled;
 use exchange_rules::{DialledSetup, begins, tries_again};
 use messages::{Channel, Message, Part};
-use moves::{INVALID_NUMBER_FORMAT, SERVICE_UNAVAILABLE};
+use effects::{INVALID_NUMBER_FORMAT, SERVICE_UNAVAILABLE};
 use pools::Pool;
 use sip_rules::invited;
 

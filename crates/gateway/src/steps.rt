@@ -4,7 +4,7 @@ ghost use Rattle.calls.specs.declared.answers.Answer.TheVariants.{Step, Exchange
 ghost use Rattle.calls.specs.Words.{is_over};
 ghost use Rattle.calls.specs.Effects.{on_type};
 ghost use Rattle.calls.specs.Rules.{Did, Stepped, Event, Outcome, Choice, outcome, Exchange as the_message, Invite as the_invite, Cancel, Bye, Response as the_response, Expiry as the_expiry, CancelExpiry, TakeExchange, TakeSip, at as at_place, seek, by_reference, on_message, uncalled, roomed, is_roomy, answer_of, applied};
-ghost use Rattle.desk.specs.Keys.{Within};
+ghost use Rattle.call_table.specs.Keys.{Within};
 ghost use Rattle.reader.specs.Seen.{seen_record};
 ghost use Rattle.decisions.specs.Outcomes.{outcome_of};
 ghost use Rattle.gateway.specs.Stands.{state_of, Possible};
@@ -16,7 +16,7 @@ use decisions::{
     Action, is_status, on_bye, on_cancel, on_expiry_of, on_expiry_of_cancel, on_heard, on_response,
     screen, turned_away, wants_another,
 };
-use desk::{Found, Key};
+use call_table::{Found, Key};
 use messages::{CallReference, Message, Part};
 use pools::Pool;
 use reader::read;

@@ -1,7 +1,7 @@
 //! Reads lines of hexadecimal octets and prints each as a QSIG message and back.
 #![tactic(auto)]
 
-use lines::{Answer, answer_to, is_remark};
+use message_text::{Answer, answer_to, is_remark};
 use std::io;
 
 fn main(rt: HostRuntime) -> io::Result<()> {

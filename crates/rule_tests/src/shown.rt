@@ -2,7 +2,7 @@
 //! rows' own short form, which leaves out what a row does not try; the records' own `Display` would not.
 use calls::{Digits, ExchangeSide, SipMessage, SipSide};
 use messages::{Message, MessageType};
-use moves::Effect;
+use effects::Effect;
 use queues::few::Few;
 use refusals::Ground;
 use std::alloc::{AllocError, Global};

@@ -3,7 +3,7 @@ use crate::command::{BadLine, Command, Opening, PoolKind, parse};
 use crate::play::Play;
 use calls::Refused;
 use gateway::{Gateway, Outgoing};
-use lines::is_remark;
+use message_text::is_remark;
 use link_pool::LinkPool;
 use pools::Pool;
 use refusals::Ground;

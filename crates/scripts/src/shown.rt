@@ -4,7 +4,7 @@ ghost use Rattle.calls.specs.Effects.{meant};
 
 use crate::command::{Opening, PoolKind};
 use calls::{Answer, Call, Digits, ExchangeSide, Report, SipMessage, SipSide, Timer};
-use lines::MessageText;
+use message_text::MessageText;
 use messages::{Elements, Message, Part};
 use std::fmt;
 

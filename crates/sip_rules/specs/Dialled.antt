@@ -4,7 +4,7 @@ use Rattle.std.specs.Borrow.{Bor}
 use Rattle.messages.specs.Elements.{all_digits}
 use Rattle.calls.specs.declared.incoming.Invite.{Invite}
 use Rattle.calls.specs.Effects.{is_nothing}
-use Rattle.dialling.specs.declared.dialled.Dialled.{Dialled}
+use Rattle.digits.specs.declared.dialled.Dialled.{Dialled}
 
 abbrev pub refusal_of : List ℕ → Option ℕ
 refusal_of xs = cond (is_nothing xs) (Some 484) (cond (nat_le (length xs) 20 && all_digits xs) None (Some 404))

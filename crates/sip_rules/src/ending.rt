@@ -1,10 +1,10 @@
 //! The ends of a call on the side of SIP.
 ghost use Rattle.std.specs.Prelude.{◌≡◌};
 ghost use Rattle.calls.specs.Effects.{leaves as leaving, on_cancel_expiry};
-ghost use Rattle.moves.specs.Moves.{effect_of, ruling_of};
+ghost use Rattle.effects.specs.Moves.{effect_of, ruling_of};
 
 use calls::{Call, SipSide};
-use moves::{Effect, becomes, clears_exchange, leaves_sip, moved, ours, stays};
+use effects::{Effect, becomes, clears_exchange, leaves_sip, moved, ours, stays};
 use queues::few::Few;
 use refusals::Ground;
 

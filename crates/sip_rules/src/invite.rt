@@ -2,13 +2,13 @@
 ghost use Rattle.std.specs.Prelude.{◌≡◌, IfOk};
 ghost use Rattle.std.specs.Result.{result_err};
 ghost use Rattle.calls.specs.Effects.{invited as inviting, invite_call};
-ghost use Rattle.moves.specs.Moves.{effect_of};
+ghost use Rattle.effects.specs.Moves.{effect_of};
 ghost use Rattle.sip_rules.specs.Dialled.{refusal_of, IsAsItCame};
 
 use calls::{Call, ExchangeSide, Invite, SipSide};
-use dialling::{Dialled, recorded};
+use digits::{Dialled, recorded};
 use messages::{CallReference, all_digits};
-use moves::{Effect, made, setup_on};
+use effects::{Effect, made, setup_on};
 use queues::few::Few;
 
 const NOT_FOUND: u16 = 404;

@@ -3,12 +3,12 @@ ghost use Rattle.std.specs.Prelude.{◌≡◌, [], nat_le};
 ghost use Rattle.queues.specs.Few.{listed};
 ghost use Rattle.calls.specs.Effects.{fails as failing, ack_and_bye, accepts as accepting, moved as moving, stays as staying, becomes as becoming, untold, Does};
 ghost use Rattle.calls.specs.Rules.{on_other};
-ghost use Rattle.moves.specs.Moves.{effect_of};
+ghost use Rattle.effects.specs.Moves.{effect_of};
 
 use crate::ringing::provisional;
 use calls::{Call, ExchangeSide, Response, SipMessage, SipSide};
 use messages::{Cause, MessageType};
-use moves::{Effect, becomes, cause_for, clears_exchange, enters, moved, stays, tell};
+use effects::{Effect, becomes, cause_for, clears_exchange, enters, moved, stays, tell};
 use queues::few::Few;
 
 /// Final responses from here on refuse.

@@ -1,12 +1,12 @@
 //! Provisional responses: what the exchange is told of the called party.
 ghost use Rattle.std.specs.Prelude.{◌≡◌, Some};
 ghost use Rattle.calls.specs.Effects.{rests as resting, announces as announcing, alerts as alerting, rings as ringing, tell_progress, provisional as on_provisional};
-ghost use Rattle.moves.specs.Moves.{effect_of};
+ghost use Rattle.effects.specs.Moves.{effect_of};
 
 use crate::news::{News, news_of};
 use calls::{Call, Digits, Response, SipSide, Told};
 use messages::{Message, MessageType};
-use moves::{Effect, becomes, keeps, moved, stays, tell_progress};
+use effects::{Effect, becomes, keeps, moved, stays, tell_progress};
 use queues::few::Few;
 
 /// The call is not QSIG from end to end.

@@ -10,7 +10,7 @@ use Rattle.calls.specs.declared.answers.Report.{Report}
 use Rattle.calls.specs.Rules.{Choice, Fair, Did, rejects, wishes, seats, on_setup}
 use Rattle.calls.proofs.Choices.{fair_pick}
 use Rattle.calls.proofs.Dids.{bounded, did, plainly}
-use Rattle.moves.specs.Answering.{rejecting}
+use Rattle.effects.specs.Answering.{rejecting}
 use Rattle.gateway.specs.Stands.{state_of}
 use Rattle.gateway.proofs.Seizures.{seated}
 use Rattle.gateway.proofs.Ways.{replied}

@@ -6,8 +6,8 @@ use Rattle.calls.specs.declared.answers.Report.{Report}
 use Rattle.calls.specs.Effects.{Effect, begins}
 use Rattle.calls.specs.Rules.{Move, rejects}
 use Rattle.calls.proofs.Dids.{bounded, moved}
-use Rattle.moves.specs.Answering.{rejecting}
-use Rattle.moves.specs.Moves.{effect_of}
+use Rattle.effects.specs.Answering.{rejecting}
+use Rattle.effects.specs.Moves.{effect_of}
 use Rattle.decisions.specs.Outcomes.{busy_cause}
 use Rattle.gateway.specs.Stands.{state_of, Ready}
 use Rattle.gateway.proofs.Seizures.{ready_begins, begins_seizes, wished, with_place}

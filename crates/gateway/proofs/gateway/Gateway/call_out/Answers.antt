@@ -7,7 +7,7 @@ use Rattle.calls.specs.Effects.{invited}
 use Rattle.calls.specs.Rules.{Choice, Fair, Move, responds, calls_out}
 use Rattle.calls.proofs.Choices.{fair_pick}
 use Rattle.calls.proofs.Dids.{bounded, did, moved}
-use Rattle.moves.specs.Moves.{effect_of}
+use Rattle.effects.specs.Moves.{effect_of}
 use Rattle.gateway.specs.Stands.{state_of}
 use Rattle.gateway.proofs.Ways.{replied}
 use Rattle.gateway.proofs.gateway.Gateway.call_out.Goals as goal

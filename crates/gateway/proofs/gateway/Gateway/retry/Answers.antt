@@ -3,8 +3,8 @@ use Rattle.calls.specs.Effects.{Effect, tries_again}
 use Rattle.calls.specs.Rules.{Choice, Fair, Move}
 use Rattle.calls.proofs.Choices.{fair_place}
 use Rattle.calls.proofs.Dids.{did, moved}
-use Rattle.desk.specs.Tokens.{channel_of}
-use Rattle.moves.specs.Moves.{effect_of}
+use Rattle.call_table.specs.Tokens.{channel_of}
+use Rattle.effects.specs.Moves.{effect_of}
 use Rattle.gateway.specs.Stands.{state_of, Ready}
 use Rattle.gateway.proofs.Seizures.{ready_again, again_seizes}
 use Rattle.gateway.proofs.gateway.Gateway.retry.Goals as goal

@@ -1,0 +1,18 @@
+-- Tokens and the channels that they stand for.
+use Rattle.std.specs.Prelude.{ℕ, Bool, true, false, Some, None, Option}
+use Rattle.call_table.specs.declared.token.Token.{Token}
+
+-- the channel of a token, if there is one
+abbrev pub channel_of : Option Token → Option ℕ
+channel_of None = None
+channel_of (Some token) = Some token.channel
+
+-- channel c where it is granted, else none
+abbrev pub granted : Bool → ℕ → Option ℕ
+granted true c = Some c
+granted false c = None
+
+-- the token of a channel, if there is one
+abbrev pub token_of : Option ℕ → Option Token
+token_of None = None
+token_of (Some c) = Some (record { channel = c })

@@ -1,0 +1,131 @@
+ghost use Rattle.std.specs.Prelude.{◌≡◌, ◌<◌, length, replicate, Some, None, slice_index_or, slice_set};
+ghost use Rattle.calls.specs.Rules.{seek, FreePlace};
+ghost use Rattle.call_table.specs.Keys.{keyed, found_of, Within};
+ghost use Rattle.call_table.specs.Tokens.{token_of};
+ghost use Rattle.call_table.specs.Records.{holding, held, is_holding, admits, answered, after_entering, Enters, left};
+
+use crate::key::{Key, is_keyed};
+use crate::token::Token;
+use calls::Call;
+use call_states::is_over;
+
+/// A call that was looked for, and its place in the table.
+#[derive(Clone, Copy, PartialEq, Eq, Debug)]
+pub struct Found {
+    pub place: usize,
+    pub call: Call,
+}
+
+fn channel_of(slot: Option<Call>) -> Option<u8>
+    ensures answers_the_channel_held { result ≡ holding slot }
+{
+    let call = slot?;
+    (!is_over(call.exchange)).then_some(call.channel)
+}
+
+fn is_holding(call: Call, channel: u8) -> bool
+    ensures yes_exactly_if_it_holds_it { result ≡ is_holding channel call }
+{
+    !is_over(call.exchange) && call.channel == channel
+}
+
+/// 64 places, each with at most one call. A call holds its channel only by the token that was entered with it.
+// Stays an array: 64 places are a rule, and a step uses no heap.
+#[derive(Drop)]
+pub struct Table {
+    places: [Option<Call>; 64],
+    ghost whole: { length places ≡ 64 },
+}
+
+impl Table {
+    /// All places free.
+    pub fn new() -> Table
+        ensures begins_free { result.places ≡ replicate 64 None }
+    {
+        Table { places: [None; 64] }
+    }
+
+    /// The first call that the key looks for.
+    pub fn find(&self, key: Key) -> Option<Found>
+        ensures the_first_that_matches_or_none { found_of result ≡ seek (keyed key) self.now.places }
+        ensures stands_at_its_place { Within result self.now.places }
+    {
+        self.places.iter().enumerate().find_map(|(place, slot)| {
+            let call = (*slot)?;
+            is_keyed(key, call).then_some(Found { place, call })
+        })
+    }
+
+    /// The call at a place; a place from 64 on has none.
+    pub fn call_at(&self, at: usize) -> Option<Call>
+        ensures answers_the_call_there { result ≡ slice_index_or self.now.places at None }
+    {
+        *self.places.get(at)?
+    }
+
+    /// A free place, if there is one.
+    pub fn free(&self) -> Option<usize>
+        ensures a_free_place_or_none_is_free { FreePlace self.now.places result }
+    {
+        self.places.iter().position(Option::is_none)
+    }
+
+    /// The channel that a place holds; a place from 64 on holds none.
+    pub fn holds(&self, place: usize) -> Option<u8>
+        ensures answers_the_channel_held { result ≡ held self.now.places place }
+    {
+        channel_of(self.call_at(place))
+    }
+
+    /// Enters a call at a free place, with the token of the channel that it holds; else the token is handed back.
+    pub fn enter(&mut self, place: usize, call: Call, token: Token) -> Result<(), Token>
+        ensures handed_back_exactly_if_not_admitted { result ≡ answered (admits self.old.places place call token.channel) token }
+        ensures entered_at_that_place_alone { self.new.places ≡ after_entering (admits self.old.places place call token.channel) self.old.places place call }
+    {
+        if !is_holding(call, token.channel) || place >= 64 || self.places[place].is_some() {
+            return Err(token);
+        }
+        let Token { channel: _ } = token;
+        self.places[place] = Some(call);
+        Ok(())
+    }
+
+    /// Changes one record. A token that comes in is entered with the record; the token of a channel that the place no longer
+    /// holds comes out. The requirements are for the one place where effects are applied: it has found the place, has seized
+    /// what the record is to hold, and after its other changes has no way back from a refusal.
+    pub fn change(
+        &mut self,
+        place: usize,
+        after: Option<Call>,
+        token: Option<Token>,
+    ) -> Option<Token>
+        requires one_of_the_places { place < 64 }
+        requires no_channel_without_its_token { Enters (slice_index_or self.old.places place None) after token }
+        ensures changes_that_place_alone { self.new.places ≡ slice_set self.old.places place after }
+        ensures gives_out_the_channel_left { result ≡ left (slice_index_or self.old.places place None) after token }
+    {
+        let before = self.holds(place);
+        self.places[place] = after;
+        // Stays a match: with no `Drop`, a token is spent only by taking it apart.
+        let goes_on = match token {
+            Some(Token { channel: _ }) => false,
+            None => channel_of(after).is_some(),
+        };
+        if goes_on {
+            return None;
+        }
+        before.map(|channel| Token { channel })
+    }
+
+    /// Removes the call at a place; the token of the channel that it holds comes out.
+    pub fn remove(&mut self, place: usize) -> Option<Token>
+        ensures gives_out_the_channel_held { result ≡ token_of (held self.old.places place) }
+        ensures frees_that_place_alone { self.new.places ≡ slice_set self.old.places place None }
+    {
+        let held = self.holds(place);
+        if place < 64 {
+            self.places[place] = None;
+        }
+        held.map(|channel| Token { channel })
+    }
+}

@@ -1,0 +1,76 @@
+ghost use Rattle.std.specs.Prelude.{◌≡◌, ℕ};
+ghost use Rattle.pools.specs.States.{idle, seized, after_any, after_release, AnyWasIdle};
+ghost use Rattle.call_table.specs.Tokens.{channel_of, granted};
+ghost use Rattle.call_table.specs.Wishes.{WishGets, WasIdle};
+
+use crate::token::Token;
+use messages::Channel;
+use pools::Pool;
+
+/// A pool whose seizures are tokens.
+#[derive(Drop)]
+pub struct Trunk<P: Pool> {
+    pool: P,
+}
+
+impl<P: Pool> Trunk<P> {
+    /// A trunk over a pool.
+    pub fn new(pool: P) -> Trunk<P>
+        ensures holds_the_pool { result.pool ≡ pool }
+    {
+        Trunk { pool }
+    }
+
+    /// The largest channel number of the pool's kind.
+    pub fn largest(&self) -> u8
+        ensures answers_the_top_of_the_kind { result ≡ P.Pool.top }
+    {
+        P::largest_channel()
+    }
+
+    /// Is channel `c` known and idle?
+    pub fn is_idle(&self, c: u8) -> bool
+        ensures yes_exactly_if_idle { result ≡ idle (P.Pool.state self.now.pool c) }
+    {
+        self.pool.is_idle(c)
+    }
+
+    /// A token of channel `c`, if it is idle.
+    pub fn seize(&mut self, c: u8) -> Option<Token>
+        ensures granted_exactly_if_idle { channel_of result ≡ granted (idle (P.Pool.state self.old.pool c)) c }
+        ensures grant_seizes_it_alone { (k : ℕ) → P.Pool.state self.new.pool k ≡ after_any (channel_of result) (P.Pool.state self.old.pool) k }
+    {
+        self.pool.seize(c).then(|| Token { channel: c })
+    }
+
+    /// A token of an idle channel of the pool's choice, if one is idle.
+    pub fn seize_any(&mut self) -> Option<Token>
+        ensures granted_exactly_if_one_is_idle { AnyWasIdle (channel_of result) (P.Pool.state self.old.pool) }
+        ensures grant_seizes_it_alone { (k : ℕ) → P.Pool.state self.new.pool k ≡ after_any (channel_of result) (P.Pool.state self.old.pool) k }
+    {
+        self.pool.seize_any().map(|channel| Token { channel })
+    }
+
+    /// A token of the wished channel if it is idle; else, where it is only preferred, of any idle one.
+    pub fn seize_wished(&mut self, wish: Channel) -> Option<Token>
+        ensures the_wished_or_any_or_none { WishGets (idle (P.Pool.state self.old.pool wish.number)) wish.exclusive wish.number (P.Pool.state self.old.pool) (channel_of result) }
+        ensures what_is_granted_was_idle { WasIdle (channel_of result) (P.Pool.state self.old.pool) }
+        ensures grant_seizes_it_alone { (k : ℕ) → P.Pool.state self.new.pool k ≡ after_any (channel_of result) (P.Pool.state self.old.pool) k }
+    {
+        if wish.exclusive || self.is_idle(wish.number) {
+            self.seize(wish.number)
+        } else {
+            self.seize_any()
+        }
+    }
+
+    /// Takes a token back; its channel is idle again. Says whether the pool had it as seized, as it has the channel of
+    /// every token of its own.
+    pub fn release(&mut self, token: Token) -> bool
+        ensures granted_exactly_if_seized { result ≡ seized (P.Pool.state self.old.pool token.channel) }
+        ensures grant_frees_it_alone { (k : ℕ) → P.Pool.state self.new.pool k ≡ after_release (seized (P.Pool.state self.old.pool token.channel)) token.channel (P.Pool.state self.old.pool) k }
+    {
+        let Token { channel } = token;
+        self.pool.release(channel)
+    }
+}
