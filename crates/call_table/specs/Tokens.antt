@@ -3,9 +3,9 @@ use Rattle.std.specs.Prelude.{ℕ, Bool, true, false, Some, None, Option}
 use Rattle.call_table.specs.declared.token.Token.{Token}
 
 -- the channel of a token, if there is one
-abbrev pub channel_of : Option Token → Option ℕ
-channel_of None = None
-channel_of (Some token) = Some token.channel
+abbrev pub token_channel : Option Token → Option ℕ
+token_channel None = None
+token_channel (Some token) = Some token.channel
 
 -- channel c where it is granted, else none
 abbrev pub granted : Bool → ℕ → Option ℕ

@@ -16,7 +16,7 @@ pub struct Found {
     pub call: Call,
 }
 
-fn channel_of(slot: Option<Call>) -> Option<u8>
+fn held_channel(slot: Option<Call>) -> Option<u8>
     ensures answers_the_channel_held { result ≡ holding slot }
 {
     let call = slot?;
@@ -74,7 +74,7 @@ impl Table {
     pub fn holds(&self, place: usize) -> Option<u8>
         ensures answers_the_channel_held { result ≡ held self.now.places place }
     {
-        channel_of(self.call_at(place))
+        held_channel(self.call_at(place))
     }
 
     /// Enters a call at a free place, with the token of the channel that it holds; else the token is handed back.
@@ -109,7 +109,7 @@ impl Table {
         // Stays a match: with no `Drop`, a token is spent only by taking it apart.
         let goes_on = match token {
             Some(Token { channel: _ }) => false,
-            None => channel_of(after).is_some(),
+            None => held_channel(after).is_some(),
         };
         if goes_on {
             return None;

@@ -1,6 +1,6 @@
 ghost use Rattle.std.specs.Prelude.{◌≡◌, ℕ};
 ghost use Rattle.pools.specs.States.{idle, seized, after_any, after_release, AnyWasIdle};
-ghost use Rattle.call_table.specs.Tokens.{channel_of, granted};
+ghost use Rattle.call_table.specs.Tokens.{token_channel, granted};
 ghost use Rattle.call_table.specs.Wishes.{WishGets, WasIdle};
 
 use crate::token::Token;
@@ -37,25 +37,25 @@ impl<P: Pool> Trunk<P> {
 
     /// A token of channel `c`, if it is idle.
     pub fn seize(&mut self, c: u8) -> Option<Token>
-        ensures granted_exactly_if_idle { channel_of result ≡ granted (idle (P.Pool.state self.old.pool c)) c }
-        ensures grant_seizes_it_alone { (k : ℕ) → P.Pool.state self.new.pool k ≡ after_any (channel_of result) (P.Pool.state self.old.pool) k }
+        ensures granted_exactly_if_idle { token_channel result ≡ granted (idle (P.Pool.state self.old.pool c)) c }
+        ensures grant_seizes_it_alone { (k : ℕ) → P.Pool.state self.new.pool k ≡ after_any (token_channel result) (P.Pool.state self.old.pool) k }
     {
         self.pool.seize(c).then(|| Token { channel: c })
     }
 
     /// A token of an idle channel of the pool's choice, if one is idle.
     pub fn seize_any(&mut self) -> Option<Token>
-        ensures granted_exactly_if_one_is_idle { AnyWasIdle (channel_of result) (P.Pool.state self.old.pool) }
-        ensures grant_seizes_it_alone { (k : ℕ) → P.Pool.state self.new.pool k ≡ after_any (channel_of result) (P.Pool.state self.old.pool) k }
+        ensures granted_exactly_if_one_is_idle { AnyWasIdle (token_channel result) (P.Pool.state self.old.pool) }
+        ensures grant_seizes_it_alone { (k : ℕ) → P.Pool.state self.new.pool k ≡ after_any (token_channel result) (P.Pool.state self.old.pool) k }
     {
         self.pool.seize_any().map(|channel| Token { channel })
     }
 
     /// A token of the wished channel if it is idle; else, where it is only preferred, of any idle one.
     pub fn seize_wished(&mut self, wish: Channel) -> Option<Token>
-        ensures the_wished_or_any_or_none { WishGets (idle (P.Pool.state self.old.pool wish.number)) wish.exclusive wish.number (P.Pool.state self.old.pool) (channel_of result) }
-        ensures what_is_granted_was_idle { WasIdle (channel_of result) (P.Pool.state self.old.pool) }
-        ensures grant_seizes_it_alone { (k : ℕ) → P.Pool.state self.new.pool k ≡ after_any (channel_of result) (P.Pool.state self.old.pool) k }
+        ensures the_wished_or_any_or_none { WishGets (idle (P.Pool.state self.old.pool wish.number)) wish.exclusive wish.number (P.Pool.state self.old.pool) (token_channel result) }
+        ensures what_is_granted_was_idle { WasIdle (token_channel result) (P.Pool.state self.old.pool) }
+        ensures grant_seizes_it_alone { (k : ℕ) → P.Pool.state self.new.pool k ≡ after_any (token_channel result) (P.Pool.state self.old.pool) k }
     {
         if wish.exclusive || self.is_idle(wish.number) {
             self.seize(wish.number)

@@ -7,7 +7,7 @@ use Rattle.calls.specs.declared.sides.SipSide.{SipSide}
 use Rattle.std.proofs.lemmas.Bool.{cond_both}
 use Rattle.pools.specs.States.{States, idle}
 use Rattle.calls.specs.Words.{is_over, sip_stage, is_gone, holds, owes, owes_from, on_call, named, connects_in, finals_in, bye_in}
-use Rattle.calls.specs.Standing.{fits, SoundAt}
+use Rattle.calls.specs.Standing.{sides_agree, SoundAt}
 use Rattle.calls.specs.Effects.{ExchangeMove, SipMove, Effect, unless_gone, moved_call, redialled}
 use Rattle.calls.specs.Rules.{Event, Exchange, Invite, Cancel, Bye, Response, Expiry, CancelExpiry, TakeExchange, TakeSip}
 use Rattle.calls.specs.Laws.{inviting, brings, comes, parts, sends}
@@ -60,7 +60,7 @@ gone_sum f k h = grind (arith, nat_tests)
 gone_linked : (last : ℕ → Option ℕ) (k : Call) → Linked last k.sip → LinkedAt last (unless_gone k)
 gone_linked last k h = elim (is_gone k) as (λ b. LinkedAt last (cond b None (Some k))) [ true ↦ tt | false ↦ h ]
 
-gone_sound : (k : Call) → fits k.exchange k.sip ≡ true → SoundAt (unless_gone k)
+gone_sound : (k : Call) → sides_agree k.exchange k.sip ≡ true → SoundAt (unless_gone k)
 gone_sound k h = elim (is_gone k) as (λ b. SoundAt (cond b None (Some k))) [ true ↦ tt | false ↦ h ]
 
 gone_present : (k : Call) → PresentAt (unless_gone k)
@@ -81,7 +81,7 @@ talks_off d g e = grind (arith, nat_tests)
 abbrev pub Uninvited : Event → Type 0
 Uninvited ev = (t : ℕ) → inviting t ev ≡ 0
 
-pub moved_balanced : (pool : States) (ev : Event) → Uninvited ev → (k : Call) (ds : Digits) (a : ExchangeMove) (b : SipMove) → ExchangeLaw k a → SipLaw ev k.sip b → ((c : ℕ) → named c a.seized ≡ 1 → idle (pool c) ≡ true) → fits a.side b.side ≡ true → Balanced pool (Some k) ev (redialled k ds a b)
+pub moved_balanced : (pool : States) (ev : Event) → Uninvited ev → (k : Call) (ds : Digits) (a : ExchangeMove) (b : SipMove) → ExchangeLaw k a → SipLaw ev k.sip b → ((c : ℕ) → named c a.seized ≡ 1 → idle (pool c) ≡ true) → sides_agree a.side b.side ≡ true → Balanced pool (Some k) ev (redialled k ds a b)
 moved_balanced pool ev u k ds a b la lb i s =
     let z = moved_call k ds a b in
     record {

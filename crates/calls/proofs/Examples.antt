@@ -5,12 +5,12 @@ use Rattle.messages.proofs.RoundTrip.{layout_examples}
 use Rattle.pools.specs.declared.channel.ChannelState.TheVariants.{Unknown, Idle, Seized}
 use Rattle.pools.specs.States.{idle}
 use Rattle.calls.specs.declared.answers.Answer.{Answer}
-use Rattle.calls.specs.Rules.{Event, Exchange, Invite, Response, TakeExchange, TakeSip, State, Choice, Fair, outcome, applied, answer_of, Stepping, standing, onward}
+use Rattle.calls.specs.Rules.{Event, Exchange, Invite, Response, TakeExchange, TakeSip, State, Choice, Fair, outcome, applied, answer_of, Stepping, no_step, next_step}
 use Rattle.calls.specs.Examples.{opened, seven_and_nine, seven_alone, digits, disconnect, unavailable, AnsweredAfterCancel, AnsweredTwice, TriedOnAnother, TriedInVain, Collisions, Examples}
 
 -- one event more
 then : {entry st : State} {evs : List Event} {ans : List Answer} → Stepping entry evs ans st → (ch : Choice) (ev : Event) → Fair st ch → Stepping entry (evs ++ ev ∷ []) (ans ++ answer_of st (outcome st ch ev) ∷ []) (applied st (outcome st ch ev))
-then {entry} {st} s ch ev fair = onward ev (answer_of st (outcome st ch ev)) s (record { choice = ch; fair = fair; answer = refl; after = refl })
+then {entry} {st} s ch ev fair = next_step ev (answer_of st (outcome st ch ev)) s (record { choice = ch; fair = fair; answer = refl; after = refl })
 
 -- channel c is picked, or none, and place i
 abbrev on : ℕ → ℕ → Choice
@@ -29,7 +29,7 @@ busy k = go (eqb k 7)
 
 answered_after_cancel : AnsweredAfterCancel
 answered_after_cancel =
-    let s0 : Stepping (opened seven_and_nine) [] [] (opened seven_and_nine) = standing in
+    let s0 : Stepping (opened seven_and_nine) [] [] (opened seven_and_nine) = no_step in
     let s1 = then s0 (on 7 0) (Exchange setup417_octets) (record { pick = refl; place = (lit≤ tt, refl) }) in
     let s2 = then s1 (on 9 1) (Exchange disconnect) (record { pick = refl; place = (lit≤ tt, refl) }) in
     let s3 = then s2 (on 9 1) (Response 1 200 70 false) (record { pick = refl; place = (lit≤ tt, refl) }) in
@@ -45,7 +45,7 @@ answered_after_cancel =
 
 answered_twice : AnsweredTwice
 answered_twice =
-    let s0 : Stepping (opened seven_and_nine) [] [] (opened seven_and_nine) = standing in
+    let s0 : Stepping (opened seven_and_nine) [] [] (opened seven_and_nine) = no_step in
     let s1 = then s0 (on 7 0) (Exchange setup417_octets) (record { pick = refl; place = (lit≤ tt, refl) }) in
     let s2 = then s1 (on 9 1) (Response 1 200 70 false) (record { pick = refl; place = (lit≤ tt, refl) }) in
     let s3 = then s2 (on 9 1) (Response 1 200 71 false) (record { pick = refl; place = (lit≤ tt, refl) }) in
@@ -61,7 +61,7 @@ answered_twice =
 
 tried_on_another : TriedOnAnother
 tried_on_another =
-    let s0 : Stepping (opened seven_and_nine) [] [] (opened seven_and_nine) = standing in
+    let s0 : Stepping (opened seven_and_nine) [] [] (opened seven_and_nine) = no_step in
     let s1 = then s0 (on 7 0) (Invite 30 70 digits) (record { pick = refl; place = (lit≤ tt, refl) }) in
     let s2 = then s1 (on 9 1) (Exchange unavailable) (record { pick = refl; place = (lit≤ tt, refl) }) in
     let s3 = then s2 (on 7 1) TakeExchange (record { pick = refl; place = (lit≤ tt, refl) }) in
@@ -72,7 +72,7 @@ tried_on_another =
 
 tried_in_vain : TriedInVain
 tried_in_vain =
-    let s0 : Stepping (opened seven_alone) [] [] (opened seven_alone) = standing in
+    let s0 : Stepping (opened seven_alone) [] [] (opened seven_alone) = no_step in
     let s1 = then s0 (on 7 0) (Invite 30 70 digits) (record { pick = refl; place = (lit≤ tt, refl) }) in
     let s2 = then s1 (nobody 1) (Exchange unavailable) (record { pick = busy; place = (lit≤ tt, refl) }) in
     let s3 = then s2 (on 7 1) TakeExchange (record { pick = refl; place = (lit≤ tt, refl) }) in

@@ -3,7 +3,7 @@ use Rattle.std.proofs.Common.{◌≡◌, ℕ, List, [], ◌∷◌, ◌++◌, map
 use mathlib.Core.List.{reverse-cons}
 use Rattle.std.proofs.lemmas.List.{map-append}
 use Rattle.calls.specs.declared.answers.Answer.{Answer}
-use Rattle.calls.specs.Rules.{Event, State, Stepped, Stepping, standing, onward, outcome, applied}
+use Rattle.calls.specs.Rules.{Event, State, Stepped, Stepping, no_step, next_step, outcome, applied}
 use Rattle.calls.specs.Run.{Happening, happened, Run, opened, stepped, Tells}
 use Rattle.calls.specs.Laws.{RunLaw, RunsOn, RunsCompose}
 use Rattle.calls.proofs.Runs.{run_laws}
@@ -80,8 +80,8 @@ runs_on {entry} {exit} {evs} {ans} p start past r =
     record { more = p.more; told = p.told; run = long; rest = p.run; each = λ later earlier e. run_law start (p.more ++ past) exit long later earlier e }
 
 pub ran : {entry exit : State} {evs : List Event} {ans : List Answer} → Stepping entry evs ans exit → Ran entry evs ans exit
-ran {entry} standing = ran_none entry
-ran (onward ev a p s) = ran_more ev a (ran p) s
+ran {entry} no_step = ran_none entry
+ran (next_step ev a p s) = ran_more ev a (ran p) s
 
 pub runs_compose : RunsCompose
 runs_compose entry evs ans exit p = runs_on (ran p)

@@ -4,7 +4,7 @@ use Rattle.std.proofs.lemmas.Bool.Decides.{nat_tests}
 use Rattle.messages.specs.declared.kind.MessageType.{MessageType}
 use Rattle.messages.specs.declared.record.Cause.{Cause}
 use Rattle.messages.specs.declared.record.Message.{Message}
-use Rattle.messages.specs.Elements.{Digits as Heard}
+use Rattle.messages.specs.Elements.{DigitsPart}
 use Rattle.calls.specs.declared.answers.Timer.{Timer}
 use Rattle.calls.specs.declared.outgoing.SipMessage.{SipMessage}
 use Rattle.calls.specs.declared.record.Call.{Call}
@@ -20,7 +20,7 @@ use Rattle.calls.specs.Words.{stage, is_in, from_to, is_over, is_unreleased, is_
 use Rattle.calls.specs.Effects.{ExchangeMove, SipMove, Effect, redialled, moved, stays, enters, ends, clears_exchange, retries, becomes, clears_from, clears_sip, keeps, number_of, responds_from, answers_from, leaves_from, Ruling, Refuses, Does, only, tell, tell_cause, ours, code, is_unavailable, is_too_many, is_nothing, is_whole, is_empty_whole, meant, recorded, joined, proceeds, spurns, collects, tries_again, completed, on_type, gives_up, on_timer, on_expiry, on_cancel_expiry, rests, announces, progresses, provisional, fails, ack_and_bye, accepts, leaves}
 use Rattle.calls.specs.Rules.{Event, Cancel, Bye, Response}
 use Rattle.calls.proofs.Moves.{ExchangeLaw, SipLaw, Quiet, Mute, stays_law, ends_law, enters_law, clears_law, retries_law, keeps_law, clears_sip_lem, tells_sip, answers_sip, cancels_sip, byes_sip, offs_sip, invites_sip}
-use Rattle.calls.specs.Standing.{fits}
+use Rattle.calls.specs.Standing.{sides_agree}
 use Rattle.calls.proofs.Balance.{Balanced, Uninvited, moved_balanced}
 
 abbrev pub Keeps : States → Call → Event → Ruling → Type 0
@@ -48,15 +48,15 @@ stage_of Timer.T313 = 3
 running_stage : (t : Timer) (side : ExchangeSide) → is_running t side ≡ true → stage side ≡ stage_of t
 running_stage t side e = grind (arith, nat_tests)
 
-module _ (pool : States) (ev : Event) (u : Uninvited ev) (q : Quiet ev) (k : Call) (sound : fits k.exchange k.sip ≡ true) where
+module _ (pool : States) (ev : Event) (u : Uninvited ev) (q : Quiet ev) (k : Call) (sound : sides_agree k.exchange k.sip ≡ true) where
   -- a step that seizes nothing
-  plainly : (ds : Digits) (a : ExchangeMove) (b : SipMove) → a.seized ≡ None → ExchangeLaw k a → SipLaw ev k.sip b → fits a.side b.side ≡ true → Balanced pool (Some k) ev (redialled k ds a b)
+  plainly : (ds : Digits) (a : ExchangeMove) (b : SipMove) → a.seized ≡ None → ExchangeLaw k a → SipLaw ev k.sip b → sides_agree a.side b.side ≡ true → Balanced pool (Some k) ev (redialled k ds a b)
   plainly ds a b e la lb s = moved_balanced pool ev u k ds a b la lb (λ c h. unseized pool c (ap (named c) (sym e) ∙ h)) s
 
   cleared_seizes_none : (v : Cause) → (clears_exchange k v).seized ≡ None
   cleared_seizes_none v = grind (arith, nat_tests)
 
-  cleared_both : (v : Cause) (n s : ℕ) → fits (clears_exchange k v).side (clears_from n s k.sip).side ≡ true
+  cleared_both : (v : Cause) (n s : ℕ) → sides_agree (clears_exchange k v).side (clears_from n s k.sip).side ≡ true
   cleared_both v n s = grind (arith, nat_tests)
 
   gives_up_lem : (s : ℕ) → 300 ≤ s → s ≤ 699 → Balanced pool (Some k) ev (gives_up k s)
@@ -64,7 +64,7 @@ module _ (pool : States) (ev : Event) (u : Uninvited ev) (q : Quiet ev) (k : Cal
 
   -- while digits are collected
   module _ (one : stage k.exchange ≡ 1) where
-    spurned_fits : (v : Cause) → fits (clears_exchange k v).side k.sip ≡ true
+    spurned_fits : (v : Cause) → sides_agree (clears_exchange k v).side k.sip ≡ true
     spurned_fits v = grind (arith, nat_tests)
 
     spurned : (ds : Digits) → Balanced pool (Some k) ev (spurns k ds)
@@ -82,10 +82,10 @@ module _ (pool : States) (ev : Event) (u : Uninvited ev) (q : Quiet ev) (k : Cal
     collect_law : ExchangeLaw k (enters k ExchangeSide.Collecting [])
     collect_law = record { channels = λ c. grind (arith, nat_tests); connects = λ r. grind (arith, nat_tests) }
 
-    collect_fits : fits ExchangeSide.Collecting k.sip ≡ true
+    collect_fits : sides_agree ExchangeSide.Collecting k.sip ≡ true
     collect_fits = let z = no_sip in grind (arith, nat_tests)
 
-    collecting : (full : ℕ) (m : Message Heard) (xs : List ℕ) → Balanced pool (Some k) ev (collects full m k xs)
+    collecting : (full : ℕ) (m : Message DigitsPart) (xs : List ℕ) → Balanced pool (Some k) ev (collects full m k xs)
     collecting full m xs =
         cond_both (is_too_many xs) _ _ (Balanced pool (Some k) ev) (λ _. spurned k.digits)
         (λ _. cond_both (is_empty_whole m xs) _ _ (Balanced pool (Some k) ev) (λ _. spurned (recorded xs))
@@ -97,26 +97,26 @@ module _ (pool : States) (ev : Event) (u : Uninvited ev) (q : Quiet ev) (k : Cal
   only_keeps b e h = cond_both b _ _ (Keeps pool k ev) h (λ _. tt)
 
   module _ (live : is_over k.exchange ≡ false) where
-    past_fits : (l : ExchangeSide) → 2 < stage l → (sip_stage k.sip ≡ 1 → ⊥) → fits l k.sip ≡ true
+    past_fits : (l : ExchangeSide) → 2 < stage l → (sip_stage k.sip ≡ 1 → ⊥) → sides_agree l k.sip ≡ true
     past_fits l h n = grind (arith, nat_tests)
 
-    over_fits : (sip_stage k.sip ≡ 1 → ⊥) → fits ExchangeSide.Over k.sip ≡ true
+    over_fits : (sip_stage k.sip ≡ 1 → ⊥) → sides_agree ExchangeSide.Over k.sip ≡ true
     over_fits n = grind (arith, nat_tests)
 
     -- an INVITE is out only while the call proceeds
     no_invite : 2 < stage k.exchange → sip_stage k.sip ≡ 1 → ⊥
     no_invite h z = grind (arith, nat_tests)
 
-    cleared_fits : (l : ExchangeSide) (n s : ℕ) → (stage l ≡ 1 → ⊥) → fits l (clears_from n s k.sip).side ≡ true
+    cleared_fits : (l : ExchangeSide) (n s : ℕ) → (stage l ≡ 1 → ⊥) → sides_agree l (clears_from n s k.sip).side ≡ true
     cleared_fits l n s h = grind (arith, nat_tests)
 
-    answered_fits : (b : SipMove) → b ≡ answers_from k.sip → (sip_stage k.sip ≡ 1 → ⊥) → fits ExchangeSide.Up b.side ≡ true
+    answered_fits : (b : SipMove) → b ≡ answers_from k.sip → (sip_stage k.sip ≡ 1 → ⊥) → sides_agree ExchangeSide.Up b.side ≡ true
     answered_fits b e n = grind (arith, nat_tests)
 
-    responded_fits : (l : ExchangeSide) (s : ℕ) → 2 < stage l → (sip_stage k.sip ≡ 1 → ⊥) → fits l (responds_from s k.sip).side ≡ true
+    responded_fits : (l : ExchangeSide) (s : ℕ) → 2 < stage l → (sip_stage k.sip ≡ 1 → ⊥) → sides_agree l (responds_from s k.sip).side ≡ true
     responded_fits l s h n = grind (arith, nat_tests)
 
-    responded_stays_fits : (s : ℕ) → fits k.exchange (responds_from s k.sip).side ≡ true
+    responded_stays_fits : (s : ℕ) → sides_agree k.exchange (responds_from s k.sip).side ≡ true
     responded_stays_fits s = grind (arith, nat_tests)
 
     -- the call goes on, past its proceeding, and SIP hears nothing
@@ -150,7 +150,7 @@ module _ (pool : States) (ev : Event) (u : Uninvited ev) (q : Quiet ev) (k : Cal
         cond_both (is_in ExchangeSide.SetupSent k.exchange && is_unavailable v) _ _ (Balanced pool (Some k) ev)
         (λ e. tries_again_lem pick i (stands ExchangeSide.SetupSent (omega arith) (grind arith))) (λ _. ends_clear [] (code v) (λ r. refl) (code_final v).0 (code_final v).1)
 
-    pub on_type_lem : (full : ℕ) (pick : Option ℕ) → AnyWasIdle pick pool → (m : Message Heard) (kind : MessageType) → Keeps pool k ev (on_type full pick m k kind)
+    pub on_type_lem : (full : ℕ) (pick : Option ℕ) → AnyWasIdle pick pool → (m : Message DigitsPart) (kind : MessageType) → Keeps pool k ev (on_type full pick m k kind)
     on_type_lem full pick i m MessageType.Alerting =
         only_keeps _ _ (λ e. (let n = no_invite (spans ExchangeSide.SetupSent ExchangeSide.ProceedingOutwards (omega arith) e) in
         plainly k.digits _ _ refl (enters_law k ExchangeSide.Ringing [] (λ r. refl) live (omega arith)) (tells_sip ev q 180 (omega arith) k.sip) (responded_fits ExchangeSide.Ringing 180 (omega arith) n)))
@@ -186,7 +186,7 @@ module _ (pool : States) (ev : Event) (u : Uninvited ev) (q : Quiet ev) (k : Cal
     pub on_expiry_lem : (t : Timer) → Keeps pool k ev (on_expiry t k)
     on_expiry_lem t = cond_both (is_running t k.exchange) _ _ (Keeps pool k ev) (λ e. on_timer_lem t (running_stage t k.exchange e)) (λ _. tt)
 
-  off_fits : (l : ExchangeSide) → fits l SipSide.None ≡ true
+  off_fits : (l : ExchangeSide) → sides_agree l SipSide.None ≡ true
   off_fits l = grind (arith, nat_tests)
 
   -- the SIP side is over where a response was awaited
@@ -215,7 +215,7 @@ module _ (pool : States) (ev : Event) (u : Uninvited ev) (q : Quiet ev) (k : Cal
   retold_sip x y e =
       record { invites = λ t. grind (arith, nat_tests); talking = λ d a b. grind (arith, nat_tests); opening = λ d e a. let z = q d in grind (arith, nat_tests); sending = λ last d l e. grind (arith, nat_tests); linked = λ last l. tt }
 
-  retold_fits : (x y : Told) → k.sip ≡ SipSide.InviteSent x → fits k.exchange (SipSide.InviteSent y) ≡ true
+  retold_fits : (x y : Told) → k.sip ≡ SipSide.InviteSent x → sides_agree k.exchange (SipSide.InviteSent y) ≡ true
   retold_fits x y e = grind (arith, nat_tests)
 
   retells : (x y : Told) (m : Message Digits) → Mute (m ∷ []) → k.sip ≡ SipSide.InviteSent x → Balanced pool (Some k) ev (announces k m y)
@@ -236,11 +236,11 @@ module _ (pool : States) (ev : Event) (u : Uninvited ev) (q : Quiet ev) (k : Cal
   on_provisional s media SipSide.CancelSent e = still
 
 -- events that are a CANCEL, a BYE or a 200
-module _ (pool : States) (k : Call) (sound : fits k.exchange k.sip ≡ true) where
+module _ (pool : States) (k : Call) (sound : sides_agree k.exchange k.sip ≡ true) where
   unseized_clears : (v : Cause) (c : ℕ) → named c (clears_exchange k v).seized ≡ 1 → idle (pool c) ≡ true
   unseized_clears v c e = absurd (grind (arith, nat_tests))
 
-  left_fits : (v : Cause) → (sip_stage k.sip ≡ 2) ⊎ (sip_stage k.sip ≡ 3) → fits (clears_exchange k v).side (leaves_from k.sip).side ≡ true
+  left_fits : (v : Cause) → (sip_stage k.sip ≡ 2) ⊎ (sip_stage k.sip ≡ 3) → sides_agree (clears_exchange k v).side (leaves_from k.sip).side ≡ true
   left_fits v h = grind (arith, nat_tests)
 
   pub on_cancel : (t : ℕ) → is_unanswered t k.sip ≡ true → Balanced pool (Some k) (Cancel t) (leaves k)
@@ -281,7 +281,7 @@ module _ (pool : States) (k : Call) (sound : fits k.exchange k.sip ≡ true) whe
     same_again g y e =
         record { invites = λ t. grind (arith, nat_tests); talking = λ x p r. omega arith; opening = λ x p r. grind (arith, nat_tests); sending = λ last x l p. grind (arith, nat_tests); linked = λ last l. l }
 
-    calm : (b : SipMove) → SipLaw ok k.sip b → fits k.exchange b.side ≡ true → Balanced pool (Some k) ok (moved k (stays k []) b)
+    calm : (b : SipMove) → SipLaw ok k.sip b → sides_agree k.exchange b.side ≡ true → Balanced pool (Some k) ok (moved k (stays k []) b)
     calm b lb f = moved_balanced pool ok (λ t. refl) k k.digits (stays k []) b (stays_law k [] (λ r. refl)) lb (λ c e. unseized pool c e) f
 
     connect_law : (x : Told) → k.sip ≡ SipSide.InviteSent x → ExchangeLaw k (enters k ExchangeSide.ConnectSent (tell MessageType.Connect k ∷ []))

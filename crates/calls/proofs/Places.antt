@@ -45,7 +45,7 @@ sum_of_le f g h (Some k ∷ os) = omega (arith, sum_of_le f g h os, h k)
 pub record Finds (p : Call → Bool) (os : List (Option Call)) (f : Found) : Type 0 where
   pub inside : f.place < length os
   pub here : get_or os f.place None ≡ Some f.call
-  pub fits : p f.call ≡ true
+  pub matches : p f.call ≡ true
 
 -- no call matches, so that what counts matching calls alone counts none
 abbrev pub Misses : (Call → Bool) → List (Option Call) → Type 0
@@ -53,7 +53,7 @@ Misses p os = (f : Call → ℕ) → ((k : Call) → p k ≡ false → f k ≡ 0
 
 later_finds : (p : Call → Bool) (o : Option Call) (os : List (Option Call)) → ((f : Call → ℕ) → ((k : Call) → p k ≡ false → f k ≡ 0) → on_call f o ≡ 0) → (r : Option Found) → MatchOption r (Misses p os) (Finds p os) → MatchOption (later r) (Misses p (o ∷ os)) (Finds p (o ∷ os))
 later_finds p o os z None h = λ f v. omega (arith, z f v, h f v)
-later_finds p o os z (Some x) h = record { inside = omega (arith, h.inside); here = h.here; fits = h.fits }
+later_finds p o os z (Some x) h = record { inside = omega (arith, h.inside); here = h.here; matches = h.matches }
 
 pub seek_tells : (p : Call → Bool) (os : List (Option Call)) → MatchOption (seek p os) (Misses p os) (Finds p os)
 seek_tells p [] = λ f v. refl
@@ -61,5 +61,5 @@ seek_tells p (None ∷ os) = later_finds p None os (λ f v. refl) (seek p os) (s
 seek_tells p (Some k ∷ os) =
     let rest = seek_tells p os in
     cond_both (p k) _ _ (λ r. MatchOption r (Misses p (Some k ∷ os)) (Finds p (Some k ∷ os)))
-    (λ e. record { inside = omega arith; here = refl; fits = e })
+    (λ e. record { inside = omega arith; here = refl; matches = e })
     (λ e. later_finds p (Some k) os (λ f v. v k e) (seek p os) rest)

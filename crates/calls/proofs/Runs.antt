@@ -15,9 +15,9 @@ use Rattle.calls.specs.Words.{named, is_named, holds, owes, owes_from, on_call, 
 use Rattle.calls.specs.Effects.{Effect}
 use Rattle.calls.specs.Rules.{Event, Exchange, Invite, Cancel, Bye, Response, Expiry, CancelExpiry, TakeExchange, TakeSip, State, Outcome, Refuse, Reply, Move, TookExchange, TookSip, outcome, applied, first, freed}
 use Rattle.calls.specs.Run.{Happening, happened, Opening, Run, opened, stepped}
-use Rattle.calls.specs.Laws.{Laws, seizures, releases, holders, owing, inviting, invites_taken, finals_sent, setups_taken, connects_sent, asks, last_dialogue, is_unended, comes, sends, parts, Stands, listed, exchange_sent, exchange_gone, sip_sent, sip_gone}
+use Rattle.calls.specs.Laws.{Laws, seizures, releases, holders, owing, inviting, invites_taken, finals_sent, setups_taken, connects_sent, asks, last_dialogue, is_unended, comes, sends, parts, Stands, option_to_list, exchange_sent, exchange_gone, sip_sent, sip_gone}
 use Rattle.calls.proofs.Moves.{Linked}
-use Rattle.calls.specs.Standing.{Everywhere, fits, SoundAt}
+use Rattle.calls.specs.Standing.{Everywhere, sides_agree, SoundAt}
 use Rattle.calls.proofs.Balance.{Balanced, LinkedAt, PresentAt, talks_call, may_connect, Asked}
 use Rattle.calls.proofs.Places.{everywhere_at, everywhere_set, everywhere_none, sum_of_set, sum_of_none, sum_of_at, sum_of_le}
 use Rattle.calls.proofs.Steps.{Lawful, Fresh, lawful, spoken}
@@ -48,7 +48,7 @@ held_seized p q h e o = grind (arith, nat_tests)
 talks_keeps : (d : ℕ) (k : Call) → talks_call d k ≤ one_if (holds_dialogue d k)
 talks_keeps d k = grind (arith, nat_tests)
 
-proceeds_while_out : (k : Call) → fits k.exchange k.sip ≡ true → is_invite_sent k.sip ≡ true → is_in ExchangeSide.Proceeding k.exchange ≡ true
+proceeds_while_out : (k : Call) → sides_agree k.exchange k.sip ≡ true → is_invite_sent k.sip ≡ true → is_in ExchangeSide.Proceeding k.exchange ≡ true
 proceeds_while_out k f e = grind (arith, nat_tests)
 
 stands_at : (os : List (Option Call)) → Everywhere SoundAt os → Everywhere PresentAt os → (i : ℕ) (k : Call) → get_or os i None ≡ Some k → Stands k
@@ -82,7 +82,7 @@ module _ {M : Type 0} (taken waits sent : List M) (e : taken ++ waits ≡ sent) 
   idles = ap (λ (l : List M). l ++ waits) (append-nil taken) ∙ e ∙ sym (append-nil sent)
 
 -- the oldest is taken
-takes : {M : Type 0} (taken waits sent : List M) → taken ++ waits ≡ sent → (taken ++ listed (first waits)) ++ drop 1 waits ≡ sent ++ []
+takes : {M : Type 0} (taken waits sent : List M) → taken ++ waits ≡ sent → (taken ++ option_to_list (first waits)) ++ drop 1 waits ≡ sent ++ []
 takes taken [] sent e = append-nil (taken ++ []) ∙ e ∙ sym (append-nil sent)
 takes taken (m ∷ ms) sent e = append_assoc taken (m ∷ []) ms ∙ e ∙ sym (append-nil sent)
 

@@ -5,7 +5,7 @@ use Rattle.messages.specs.declared.kind.MessageType.{MessageType}
 use Rattle.messages.specs.declared.record.CallReference.{CallReference}
 use Rattle.messages.specs.declared.record.Channel.{Channel}
 use Rattle.messages.specs.declared.record.Message.{Message}
-use Rattle.messages.specs.Elements.{Digits as Heard}
+use Rattle.messages.specs.Elements.{DigitsPart}
 use Rattle.calls.specs.declared.outgoing.SipMessage.{SipMessage}
 use Rattle.calls.specs.declared.record.Call.{Call}
 use Rattle.calls.specs.declared.record.Digits.{Digits}
@@ -21,7 +21,7 @@ use Rattle.calls.specs.Effects.{Effect, Ruling, Refuses, Does, heard_digits, is_
 use Rattle.calls.specs.Rules.{Event, Exchange, Invite, Cancel, Bye, Response, Expiry, CancelExpiry, TakeExchange, TakeSip, State, Choice, Fair, FreePlace, Outcome, Refuse, Reply, Move, TookExchange, TookSip, Found, seek, by_reference, is_number, by_number, by_live_number, by_awaited_number, by_transaction, at, at_call, rejects, takes_any, wishes, seats, on_setup, uncalled, on_message, responds, calls_out, dials, on_invite, another, on_ok, on_other, on_response, is_roomy, roomed, on_heard, is_status, outcome}
 use Rattle.calls.specs.Laws.{inviting, bringing, brings}
 use Rattle.calls.proofs.Moves.{Quiet, Mute}
-use Rattle.calls.specs.Standing.{Everywhere, fits, SoundAt}
+use Rattle.calls.specs.Standing.{Everywhere, sides_agree, SoundAt}
 use Rattle.calls.proofs.Balance.{Balanced, Uninvited}
 use Rattle.calls.proofs.Locals.{Keeps, on_type_lem, on_expiry_lem, on_cancel_expiry_lem, on_cancel, on_bye, on_accept, on_fail, on_provisional}
 use Rattle.calls.proofs.Places.{everywhere_at, Finds, Misses, seek_tells}
@@ -66,10 +66,10 @@ picked : (pool : States) (c : ℕ) → idle (pool c) ≡ true → (x : ℕ) → 
 picked pool c i x e = let z : x ≡ c = grind (arith, nat_tests) in ap (λ k. idle (pool k)) z ∙ i
 
 -- the event is a SETUP that brings the reference of m
-abbrev Brings : Event → Message Heard → Type 0
+abbrev Brings : Event → Message DigitsPart → Type 0
 Brings ev m = (r : ℕ) → brings r ev ≡ one_if (eqb m.reference.number r)
 
-module _ (pool : States) (ev : Event) (u : Uninvited ev) (q : Quiet ev) (m : Message Heard) (b : Brings ev m) (n c : ℕ) (i : idle (pool c) ≡ true) where
+module _ (pool : States) (ev : Event) (u : Uninvited ev) (q : Quiet ev) (m : Message DigitsPart) (b : Brings ev m) (n c : ℕ) (i : idle (pool c) ≡ true) where
   proceeding_balanced : Balanced pool None ev (begins_proceeding m n c)
   proceeding_balanced =
       record { channels = λ x. grind (arith, nat_tests); idle = picked pool c i; invites = λ t. omega (arith, u t); connects = λ r. (let z = b r in grind (arith, nat_tests)); talking = λ d x y. omega arith; opening = λ d x y. absurd (let z = q d in grind arith); sending = λ last d x y. absurd (grind (arith, nat_tests)); linked = λ last x y. tt; sound = refl; present = refl }
@@ -97,7 +97,7 @@ enters_at st ev i e f p b = (f, p.0, subst (λ (o : Option Call). Balanced st.po
 changes_at : (st : State) (ev : Event) (p : Call → Bool) (x : Found) (e : Effect) → Fresh st ev → Finds p st.table x → Balanced st.pool (Some x.call) ev e → Lawful st ev (Move x.place e)
 changes_at st ev p x e f h b = (f, h.inside, subst (λ (o : Option Call). Balanced st.pool o ev e) (sym h.here) b)
 
-sound_at : (st : State) (p : Call → Bool) (x : Found) → Everywhere SoundAt st.table → Finds p st.table x → fits x.call.exchange x.call.sip ≡ true
+sound_at : (st : State) (p : Call → Bool) (x : Found) → Everywhere SoundAt st.table → Finds p st.table x → sides_agree x.call.exchange x.call.sip ≡ true
 sound_at st p x s h = subst SoundAt h.here (everywhere_at SoundAt tt st.table x.place s)
 
 at_lawful : (st : State) (ev : Event) (p : Call → Bool) (x : Found) (r : Ruling) → Fresh st ev → Finds p st.table x → Keeps st.pool x.call ev r → Lawful st ev (at x.place r)
@@ -105,15 +105,15 @@ at_lawful st ev p x (Refuses g) f h b = tt
 at_lawful st ev p x (Does e) f h b = changes_at st ev p x e f h b
 
 -- an event that is no INVITE, at the call that a search finds
-called : (st : State) → Everywhere SoundAt st.table → (ev : Event) → Uninvited ev → (p : Call → Bool) (rule : Call → Ruling) → ((k : Call) → fits k.exchange k.sip ≡ true → p k ≡ true → Keeps st.pool k ev (rule k)) → (r : Option Found) → MatchOption r (Misses p st.table) (Finds p st.table) → Lawful st ev (at_call rule r)
+called : (st : State) → Everywhere SoundAt st.table → (ev : Event) → Uninvited ev → (p : Call → Bool) (rule : Call → Ruling) → ((k : Call) → sides_agree k.exchange k.sip ≡ true → p k ≡ true → Keeps st.pool k ev (rule k)) → (r : Option Found) → MatchOption r (Misses p st.table) (Finds p st.table) → Lawful st ev (at_call rule r)
 called st s ev u p rule b None h = tt
-called st s ev u p rule b (Some x) h = at_lawful st ev p x (rule x.call) (fresh st ev u) h (b x.call (sound_at st p x s h) h.fits)
+called st s ev u p rule b (Some x) h = at_lawful st ev p x (rule x.call) (fresh st ev u) h (b x.call (sound_at st p x s h) h.matches)
 
 pub live_by : (r : CallReference) (k : Call) → by_reference r k ≡ true → is_over k.exchange ≡ false
 live_by r k e = grind arith
 
 -- a message that was read
-module _ (st : State) (ev : Event) (u : Uninvited ev) (q : Quiet ev) (m : Message Heard) where
+module _ (st : State) (ev : Event) (u : Uninvited ev) (q : Quiet ev) (m : Message DigitsPart) where
   rejects_lawful : (v : ℕ) → Lawful st ev (rejects m v)
   rejects_lawful v = (fresh st ev u, spoken_balanced st.pool ev u q _ (λ r. refl))
 
@@ -161,7 +161,7 @@ module _ (st : State) (ev : Event) (u : Uninvited ev) (q : Quiet ev) (m : Messag
     message_lawful ch fair s None h = uncalled_lawful ch fair m.kind refl
     message_lawful ch fair s (Some x) h =
         at_lawful st ev _ x _ (fresh st ev u) h
-        (on_type_lem st.pool ev u q x.call (sound_at st _ x s h) (live_by m.reference x.call h.fits) st.full ch.pick fair.pick m m.kind)
+        (on_type_lem st.pool ev u q x.call (sound_at st _ x s h) (live_by m.reference x.call h.matches) st.full ch.pick fair.pick m m.kind)
 
 module _ (st : State) (s : Everywhere SoundAt st.table) where
   owes_misses : (t : ℕ) (k : Call) → by_transaction t k ≡ false → owes t k ≡ 0
@@ -202,7 +202,7 @@ module _ (st : State) (s : Everywhere SoundAt st.table) where
         subst (λ (w : ℕ). Lawful st (Response n w d media) (on_ok n d (Some x))) (sym e)
         (changes_at st _ _ x _ (fresh st (Response n 200 d media) (λ t. refl)) h (on_accept st.pool x.call (sound_at st _ x s h) n d media x.call.sip refl))
 
-    other_keeps : eqb v 200 ≡ false → (k : Call) → fits k.exchange k.sip ≡ true → by_awaited_number n k ≡ true → Keeps st.pool k re (on_other v media k)
+    other_keeps : eqb v 200 ≡ false → (k : Call) → sides_agree k.exchange k.sip ≡ true → by_awaited_number n k ≡ true → Keeps st.pool k re (on_other v media k)
     other_keeps e k good h =
         let q : Quiet re = λ d. rw e in
         cond_both (leb 300 v) _ _ (Keeps st.pool k re)
@@ -220,7 +220,7 @@ module _ (st : State) (s : Everywhere SoundAt st.table) where
   roomed_lawful : (ev : Event) (o : Outcome) → Lawful st ev o → Lawful st ev (roomed st o)
   roomed_lawful ev o l = cond_both (is_roomy st) _ _ (Lawful st ev) (λ _. l) (λ _. tt)
 
-  heard_lawful : (ch : Choice) → Fair st ch → (ev : Event) → Uninvited ev → Quiet ev → (h : Result (Message Heard) Misread) → ((r : ℕ) → brings r ev ≡ bringing r h) → Lawful st ev (on_heard st ch h)
+  heard_lawful : (ch : Choice) → Fair st ch → (ev : Event) → Uninvited ev → Quiet ev → (h : Result (Message DigitsPart) Misread) → ((r : ℕ) → brings r ev ≡ bringing r h) → Lawful st ev (on_heard st ch h)
   heard_lawful ch fair ev u q (Err x) b = tt
   heard_lawful ch fair ev u q (Ok m) b = roomed_lawful ev _ (message_lawful st ev u q m b ch fair s _ (seek_tells (by_reference m.reference) st.table))
 

@@ -6,7 +6,7 @@ use Rattle.messages.specs.declared.record.CallReference.{CallReference}
 use Rattle.messages.specs.declared.record.Cause.{Cause}
 use Rattle.messages.specs.declared.record.Channel.{Channel}
 use Rattle.messages.specs.declared.record.Message.{Message}
-use Rattle.messages.specs.Elements.{Digits as Heard}
+use Rattle.messages.specs.Elements.{DigitsPart}
 use Rattle.causes.specs.Mapping.{status_of, cause_of, counted_cause}
 use Rattle.calls.specs.declared.answers.Timer.{Timer}
 use Rattle.calls.specs.declared.outgoing.SipMessage.{SipMessage}
@@ -27,11 +27,11 @@ abbrev pub recorded : List ℕ → Digits
 recorded xs = record { octets = xs ++ replicate (20 - length xs) 0; count = length xs }
 
 -- the digits of a message; one without a called number has none
-abbrev pub octets_of : Option Heard → List ℕ
+abbrev pub octets_of : Option DigitsPart → List ℕ
 octets_of None = []
 octets_of (Some part) = part.octets
 
-abbrev pub heard_digits : Message Heard → List ℕ
+abbrev pub heard_digits : Message DigitsPart → List ℕ
 heard_digits m = octets_of m.elements.digits
 
 -- more digits than a call can have
@@ -42,11 +42,11 @@ abbrev pub is_nothing : List ℕ → Bool
 is_nothing xs = length xs == 0
 
 -- the number is whole: the sender says so, or there are as many digits as a full number has
-abbrev pub is_whole : ℕ → Message Heard → List ℕ → Bool
+abbrev pub is_whole : ℕ → Message DigitsPart → List ℕ → Bool
 is_whole full m xs = m.elements.complete || nat_le full (length xs)
 
 -- the sender says that the number is whole, and there is none
-abbrev pub is_empty_whole : Message Heard → List ℕ → Bool
+abbrev pub is_empty_whole : Message DigitsPart → List ℕ → Bool
 is_empty_whole m xs = m.elements.complete && is_nothing xs
 
 -- ---------------------------------------------------------------- causes
@@ -245,14 +245,14 @@ abbrev pub spurns : Call → Digits → Effect
 spurns k ds = redialled k ds (clears_exchange k (ours 28)) (keeps k)
 
 -- the digits so far, with those that came: too many, none at all, a whole number, or more to come
-abbrev pub collects : ℕ → Message Heard → Call → List ℕ → Effect
+abbrev pub collects : ℕ → Message DigitsPart → Call → List ℕ → Effect
 collects full m k xs =
     cond (is_too_many xs) (spurns k k.digits)
     (cond (is_empty_whole m xs) (spurns k (recorded xs))
     (cond (is_whole full m xs) (proceeds k (recorded xs))
     (redialled k (recorded xs) (enters k ExchangeSide.Collecting []) (keeps k))))
 
-abbrev pub joined : Call → Message Heard → List ℕ
+abbrev pub joined : Call → Message DigitsPart → List ℕ
 joined k m = meant k.digits ++ heard_digits m
 
 -- another channel is tried, if one was idle
@@ -275,7 +275,7 @@ completed pick cause k =
     cond (is_in ExchangeSide.SetupSent k.exchange && is_unavailable cause) (tries_again pick k) (moved k (ends k []) (clears_sip k (code cause)))
 
 -- a message of each type; full is the length of a full number, pick an idle channel if there is one
-module _ (full : ℕ) (pick : Option ℕ) (m : Message Heard) (k : Call) where
+module _ (full : ℕ) (pick : Option ℕ) (m : Message DigitsPart) (k : Call) where
   abbrev pub on_type : MessageType → Ruling
   on_type MessageType.Alerting =
       only (from_to ExchangeSide.SetupSent ExchangeSide.ProceedingOutwards k.exchange) (moved k (enters k ExchangeSide.Ringing []) (responds_from 180 k.sip))
@@ -378,24 +378,24 @@ made k m ms numbered =
     record { after = Some k; seized = Some k.channel; released = None; timer = timer_of k.exchange; cancelling = false; exchange = m ∷ []; sip = ms; numbered = numbered }
 
 -- the call that a SETUP makes, with the next number n, on channel c
-abbrev pub setup_call : Message Heard → ℕ → ℕ → ExchangeSide → SipSide → Call
+abbrev pub setup_call : Message DigitsPart → ℕ → ℕ → ExchangeSide → SipSide → Call
 setup_call m n c exchange sip =
     record { reference = m.reference; channel = c; number = Some n; digits = recorded (heard_digits m); exchange = exchange; sip = sip }
 
 -- an answer to SETUP that carries the channel
-abbrev pub answers_setup : MessageType → Message Heard → ℕ → Message Digits
+abbrev pub answers_setup : MessageType → Message DigitsPart → ℕ → Message Digits
 answers_setup kind m c = said kind (turned m.reference) None (exclusively c) None
 
 -- a number that is whole proceeds
-abbrev pub begins_proceeding : Message Heard → ℕ → ℕ → Effect
+abbrev pub begins_proceeding : Message DigitsPart → ℕ → ℕ → Effect
 begins_proceeding m n c =
     made (setup_call m n c ExchangeSide.Proceeding (SipSide.InviteSent untold)) (answers_setup MessageType.CallProceeding m c) (SipMessage.Invite n (recorded (heard_digits m)) ∷ []) true
 
 -- more digits are awaited
-abbrev pub begins_collecting : Message Heard → ℕ → ℕ → Effect
+abbrev pub begins_collecting : Message DigitsPart → ℕ → ℕ → Effect
 begins_collecting m n c = made (setup_call m n c ExchangeSide.Collecting SipSide.None) (answers_setup MessageType.SetupAcknowledge m c) [] true
 
-abbrev pub begins : ℕ → Message Heard → ℕ → ℕ → Effect
+abbrev pub begins : ℕ → Message DigitsPart → ℕ → ℕ → Effect
 begins full m n c = cond (is_whole full m (heard_digits m)) (begins_proceeding m n c) (begins_collecting m n c)
 
 -- the call that an INVITE makes, on channel c; its reference is the gateway's

@@ -2,7 +2,7 @@
 use Rattle.std.specs.Prelude.{◌≡◌, ℕ, ◌+◌, ◌<◌, ◌≤◌, Bool, true, false, cond, not, ◌&&◌, ◌||◌, List, [], ◌∷◌, ◌++◌, Some, None, Ok, Err, Option, Result, ◌==◌, slice_index_or}
 use Rattle.messages.specs.declared.record.Message.{Message}
 use Rattle.messages.specs.declared.record.Misread.{Misread}
-use Rattle.messages.specs.Elements.{Digits as Heard}
+use Rattle.messages.specs.Elements.{DigitsPart}
 use Rattle.messages.specs.Reading.{decoded}
 use Rattle.messages.specs.Types.{is_setup}
 use Rattle.pools.specs.declared.channel.ChannelState.TheVariants.{Idle, Seized}
@@ -56,7 +56,7 @@ abbrev pub finals_sent : ℕ → List Happening → ℕ
 finals_sent t = total (λ h. finals_in t h.sip)
 
 -- SETUPs that brought reference r and were not refused
-abbrev pub bringing : ℕ → Result (Message Heard) Misread → ℕ
+abbrev pub bringing : ℕ → Result (Message DigitsPart) Misread → ℕ
 bringing r (Ok m) = one_if (is_setup m.kind && m.reference.number == r)
 bringing r (Err x) = 0
 
@@ -181,37 +181,37 @@ pub record Stands (k : Call) : Type 0 where
 
 -- ---------------------------------------------------------------- the queues
 -- something of each happening, oldest first
-abbrev pub gathered : {M : Type 0} → (Happening → List M) → List Happening → List M
-gathered f [] = []
-gathered f (h ∷ hs) = gathered f hs ++ f h
+abbrev pub oldest_first : {M : Type 0} → (Happening → List M) → List Happening → List M
+oldest_first f [] = []
+oldest_first f (h ∷ hs) = oldest_first f hs ++ f h
 
-abbrev pub listed : {M : Type 0} → Option M → List M
-listed None = []
-listed (Some m) = m ∷ []
+abbrev pub option_to_list : {M : Type 0} → Option M → List M
+option_to_list None = []
+option_to_list (Some m) = m ∷ []
 
 -- what a taking took
 abbrev pub exchange_taken : Answer → List (Message Digits)
 exchange_taken (Answer.Step r) = []
-exchange_taken (Answer.Exchange m) = listed m
+exchange_taken (Answer.Exchange m) = option_to_list m
 exchange_taken (Answer.Sip m) = []
 
 abbrev pub sip_taken : Answer → List SipMessage
 sip_taken (Answer.Step r) = []
 sip_taken (Answer.Exchange m) = []
-sip_taken (Answer.Sip m) = listed m
+sip_taken (Answer.Sip m) = option_to_list m
 
 -- all that was sent to either side, and all that was taken from its queue
 abbrev pub exchange_sent : List Happening → List (Message Digits)
-exchange_sent past = gathered (λ h. h.exchange) past
+exchange_sent past = oldest_first (λ h. h.exchange) past
 
 abbrev pub exchange_gone : List Happening → List (Message Digits)
-exchange_gone past = gathered (λ h. exchange_taken h.answer) past
+exchange_gone past = oldest_first (λ h. exchange_taken h.answer) past
 
 abbrev pub sip_sent : List Happening → List SipMessage
-sip_sent past = gathered (λ h. h.sip) past
+sip_sent past = oldest_first (λ h. h.sip) past
 
 abbrev pub sip_gone : List Happening → List SipMessage
-sip_gone past = gathered (λ h. sip_taken h.answer) past
+sip_gone past = oldest_first (λ h. sip_taken h.answer) past
 
 -- ---------------------------------------------------------------- the laws
 -- the pool at the opening, the history since, and the state that it led to: of each channel that was idle, of each transaction

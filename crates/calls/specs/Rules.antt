@@ -6,7 +6,7 @@ use Rattle.messages.specs.declared.record.CallReference.{CallReference}
 use Rattle.messages.specs.declared.record.Channel.{Channel}
 use Rattle.messages.specs.declared.record.Message.{Message}
 use Rattle.messages.specs.declared.record.Misread.{Misread}
-use Rattle.messages.specs.Elements.{Digits as Heard, all_digits}
+use Rattle.messages.specs.Elements.{DigitsPart, all_digits}
 use Rattle.messages.specs.Reading.{decoded}
 use Rattle.pools.specs.States.{States, idle, seized, after_any, after_release, AnyWasIdle}
 use Rattle.calls.specs.declared.answers.Answer.{Answer}
@@ -130,33 +130,33 @@ at_call rule (Some f) = at f.place (rule f.call)
 
 -- ---------------------------------------------------------------- messages from the exchange
 -- RELEASE COMPLETE with a cause to a message that makes or finds no call
-abbrev pub rejects : Message Heard → ℕ → Outcome
+abbrev pub rejects : Message DigitsPart → ℕ → Outcome
 rejects m v = Reply (said MessageType.ReleaseComplete (turned m.reference) (Some (ours v)) None None ∷ []) []
 
-abbrev pub takes_any : ℕ → Message Heard → ℕ → ℕ → Option ℕ → Outcome
+abbrev pub takes_any : ℕ → Message DigitsPart → ℕ → ℕ → Option ℕ → Outcome
 takes_any full m i n None = rejects m 34
 takes_any full m i n (Some c) = Move i (begins full m n c)
 
 -- the wished channel if it is idle; else none where the wish is exclusive, any where it is not.
 -- A SETUP that is read names a channel.
-abbrev pub wishes : State → Option ℕ → Message Heard → ℕ → ℕ → Option Channel → Outcome
+abbrev pub wishes : State → Option ℕ → Message DigitsPart → ℕ → ℕ → Option Channel → Outcome
 wishes st pick m i n None = takes_any st.full m i n pick
 wishes st pick m i n (Some w) =
     cond (idle (st.pool w.number)) (Move i (begins st.full m n w.number))
     (cond w.exclusive (rejects m 44) (takes_any st.full m i n pick))
 
 -- a place and a number are needed
-abbrev pub seats : State → Option ℕ → Message Heard → Option ℕ → Option ℕ → Outcome
+abbrev pub seats : State → Option ℕ → Message DigitsPart → Option ℕ → Option ℕ → Outcome
 seats st pick m None next = rejects m 42
 seats st pick m (Some i) None = rejects m 42
 seats st pick m (Some i) (Some n) = wishes st pick m i n m.elements.channel
 
-abbrev pub on_setup : State → Choice → Message Heard → Outcome
+abbrev pub on_setup : State → Choice → Message DigitsPart → Outcome
 on_setup st ch m =
     cond (is_too_many (heard_digits m) || is_empty_whole m (heard_digits m)) (rejects m 28) (seats st ch.pick m ch.place st.next)
 
 -- a message that finds no call
-abbrev pub uncalled : State → Choice → Message Heard → MessageType → Outcome
+abbrev pub uncalled : State → Choice → Message DigitsPart → MessageType → Outcome
 uncalled st ch m MessageType.Alerting = rejects m 81
 uncalled st ch m MessageType.CallProceeding = rejects m 81
 uncalled st ch m MessageType.Progress = rejects m 81
@@ -169,7 +169,7 @@ uncalled st ch m MessageType.Release = rejects m 81
 uncalled st ch m MessageType.ReleaseComplete = refuse Ground.NoSuchCall
 uncalled st ch m MessageType.Information = rejects m 81
 
-abbrev pub on_message : State → Choice → Message Heard → Option Found → Outcome
+abbrev pub on_message : State → Choice → Message DigitsPart → Option Found → Outcome
 on_message st ch m None = uncalled st ch m m.kind
 on_message st ch m (Some f) = at f.place (on_type st.full ch.pick m f.call m.kind)
 
@@ -228,7 +228,7 @@ abbrev pub roomed : State → Outcome → Outcome
 roomed st o = cond (is_roomy st) o (refuse Ground.QueueFull)
 
 -- reading comes first, then room, then the rule
-abbrev pub on_heard : State → Choice → Result (Message Heard) Misread → Outcome
+abbrev pub on_heard : State → Choice → Result (Message DigitsPart) Misread → Outcome
 on_heard st ch (Ok m) = roomed st (on_message st ch m (seek (by_reference m.reference) st.table))
 on_heard st ch (Err x) = Refuse (record { ground = x.ground; place = Some x.place })
 
@@ -324,5 +324,5 @@ Stepped st ev a st' = Did st (λ ch. outcome st ch ev) a st'
 
 -- steps one after the other: the events met, oldest first, and the answer of each
 pub data Stepping (entry : State) : List Event → List Answer → State → Type 0 where
-  standing : Stepping entry [] [] entry
-  onward : {evs : List Event} {ans : List Answer} {st st' : State} (ev : Event) (a : Answer) → Stepping entry evs ans st → Stepped st ev a st' → Stepping entry (evs ++ ev ∷ []) (ans ++ a ∷ []) st'
+  no_step : Stepping entry [] [] entry
+  next_step : {evs : List Event} {ans : List Answer} {st st' : State} (ev : Event) (a : Answer) → Stepping entry evs ans st → Stepped st ev a st' → Stepping entry (evs ++ ev ∷ []) (ans ++ a ∷ []) st'

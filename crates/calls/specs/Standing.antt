@@ -11,17 +11,17 @@ Everywhere P [] = Unit {0}
 Everywhere P (o ∷ os) = P o × Everywhere P os
 
 -- an INVITE of the gateway's own is out only while the call proceeds; nothing is out while digits are collected
-abbrev pub fits : ExchangeSide → SipSide → Bool
-fits l g = (not (sip_stage g == 1) || stage l == 2) && (not (stage l == 1) || sip_stage g == 0)
+abbrev pub matches : ExchangeSide → SipSide → Bool
+sides_agree l g = (not (sip_stage g == 1) || stage l == 2) && (not (stage l == 1) || sip_stage g == 0)
 
 abbrev pub SoundAt : Option Call → Type 0
 SoundAt None = Unit {0}
-SoundAt (Some k) = fits k.exchange k.sip ≡ true
+SoundAt (Some k) = sides_agree k.exchange k.sip ≡ true
 
 -- the same as a test: at one place, and at every place of a table
 abbrev pub is_sound_at : Option Call → Bool
 is_sound_at None = true
-is_sound_at (Some k) = fits k.exchange k.sip
+is_sound_at (Some k) = sides_agree k.exchange k.sip
 
 abbrev pub is_sound : List (Option Call) → Bool
 is_sound [] = true

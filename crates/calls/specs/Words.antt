@@ -166,8 +166,8 @@ named c o = one_if (is_named c o)
 abbrev pub channel_from : ExchangeSide → ℕ → Option ℕ
 channel_from side channel = cond (is_over side) None (Some channel)
 
-abbrev pub channel_of : Call → Option ℕ
-channel_of k = channel_from k.exchange k.channel
+abbrev pub held_channel : Call → Option ℕ
+held_channel k = channel_from k.exchange k.channel
 
 -- a call holds its channel
 abbrev pub holds_from : ℕ → ExchangeSide → ℕ → ℕ

@@ -1,18 +1,18 @@
--- What the list says of a number: the first entry that fits counts.
+-- What the list says of a number: the first entry that covers it counts.
 use Rattle.std.specs.Prelude.{ℕ, Bool, false, cond, ◌&&◌, List, [], ◌∷◌, Some, None, Option, ◌==◌}
 use Rattle.cause_expectations.specs.declared.entry.CauseEntry.{CauseEntry}
 use Rattle.cause_expectations.specs.declared.entry.StatusEntry.{StatusEntry}
-use Rattle.cause_expectations.specs.Fits.{cause_fits, status_fits}
+use Rattle.cause_expectations.specs.Covering.{cause_covers, status_covers}
 
-abbrev pub first_fit : {E A : Type 0} → (E → Bool) → (E → A) → List E → Option A
-first_fit fits answer [] = None
-first_fit fits answer (e ∷ rest) = cond (fits e) (Some (answer e)) (first_fit fits answer rest)
+abbrev pub first_covering : {E A : Type 0} → (E → Bool) → (E → A) → List E → Option A
+first_covering covers answer [] = None
+first_covering covers answer (e ∷ rest) = cond (covers e) (Some (answer e)) (first_covering covers answer rest)
 
 abbrev pub expected_status : List CauseEntry → ℕ → ℕ → Option ℕ
-expected_status entries cause location = first_fit (λ e. cause_fits e cause location) (λ e. e.status) entries
+expected_status entries cause location = first_covering (λ e. cause_covers e cause location) (λ e. e.status) entries
 
 abbrev pub expected_cause : List StatusEntry → ℕ → Option (ℕ × ℕ)
-expected_cause entries status = first_fit (λ e. status_fits e status) (λ e. (e.cause.value, e.cause.location)) entries
+expected_cause entries status = first_covering (λ e. status_covers e status) (λ e. (e.cause.value, e.cause.location)) entries
 
 -- a number that the list does not know agrees with no answer
 abbrev pub same_status : Option ℕ → ℕ → Bool

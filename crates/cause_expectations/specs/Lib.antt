@@ -1,2 +1,2 @@
-pub mod Fits
+pub mod Covering
 pub mod Expected

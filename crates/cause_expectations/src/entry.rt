@@ -1,10 +1,10 @@
 // One line of the list: which numbers it is for, and what they should give.
 ghost use Rattle.std.specs.Prelude.{◌≡◌};
-ghost use Rattle.cause_expectations.specs.Fits.{cause_fits, status_fits};
+ghost use Rattle.cause_expectations.specs.Covering.{cause_covers, status_covers};
 
 use messages::Cause;
 
-// Two ends and no `RangeInclusive`: the definitions of what fits and the program's report name the ends.
+// Two ends and no `RangeInclusive`: the definitions of what an entry covers and the program's report name the ends.
 
 // Causes `first` to `last`, at one location or at any, give `status`.
 #[derive(Clone, Copy)]
@@ -24,8 +24,8 @@ pub struct StatusEntry {
 }
 
 impl CauseEntry {
-    pub(crate) fn fits(&self, cause: Cause) -> bool
-        ensures inside { result ≡ cause_fits self.now cause.value cause.location }
+    pub(crate) fn covers(&self, cause: Cause) -> bool
+        ensures inside { result ≡ cause_covers self.now cause.value cause.location }
     {
         (self.first..=self.last).contains(&cause.value)
             && self.location.is_none_or(|at| at == cause.location)
@@ -33,8 +33,8 @@ impl CauseEntry {
 }
 
 impl StatusEntry {
-    pub(crate) fn fits(&self, status: u16) -> bool
-        ensures inside { result ≡ status_fits self.now status }
+    pub(crate) fn covers(&self, status: u16) -> bool
+        ensures inside { result ≡ status_covers self.now status }
     {
         (self.first..=self.last).contains(&status)
     }

@@ -17,7 +17,7 @@ fn expected_status(entries: &[CauseEntry], cause: Cause) -> Option<u16>
 {
     entries
         .iter()
-        .find(|entry| entry.fits(cause))
+        .find(|entry| entry.covers(cause))
         .map(|entry| entry.status)
 }
 
@@ -27,7 +27,7 @@ fn expected_cause(entries: &[StatusEntry], status: u16) -> Option<Cause>
 {
     entries
         .iter()
-        .find(|entry| entry.fits(status))
+        .find(|entry| entry.covers(status))
         .map(|entry| entry.cause)
 }
 

@@ -4,8 +4,8 @@ use Rattle.refusals.specs.declared.Ground.{Ground}
 use Rattle.messages.specs.declared.kind.MessageType.{MessageType}
 use Rattle.messages.specs.declared.record.Channel.{Channel}
 use Rattle.messages.specs.declared.record.Message.{Message}
-use Rattle.messages.specs.Elements.{Digits as Heard}
-use Rattle.queues.specs.Few.{listed}
+use Rattle.messages.specs.Elements.{DigitsPart}
+use Rattle.queues.specs.Few.{few_items}
 use Rattle.calls.specs.declared.record.Call.{Call}
 use Rattle.calls.specs.declared.sides.ExchangeSide.{ExchangeSide}
 use Rattle.calls.specs.Words.{is_in}
@@ -18,7 +18,7 @@ use Rattle.decisions.specs.declared.action.Action.{Action}
 
 abbrev pub outcome_of : Result Action Ground → Outcome
 outcome_of (Err g) = refuse g
-outcome_of (Ok (Action.Reply ms ss)) = rules.Reply (listed ms) (listed ss)
+outcome_of (Ok (Action.Reply ms ss)) = rules.Reply (few_items ms) (few_items ss)
 outcome_of (Ok (Action.Move i e)) = rules.Move i (effect_of e)
 
 -- these calls and nothing beside them, for a rule that asks the calls alone
@@ -30,7 +30,7 @@ abbrev pub responded : List (Option Call) → ℕ → ℕ → ℕ → Bool → O
 responded table n s d media = on_response (calls_alone table) n s d media
 
 -- a message other than SETUP that finds no call: only RELEASE COMPLETE is not answered
-abbrev pub turned_away : Message Heard → MessageType → Outcome
+abbrev pub turned_away : Message DigitsPart → MessageType → Outcome
 turned_away m MessageType.Alerting = rejects m 81
 turned_away m MessageType.CallProceeding = rejects m 81
 turned_away m MessageType.Progress = rejects m 81
@@ -57,7 +57,7 @@ is_release_complete MessageType.ReleaseComplete = true
 is_release_complete MessageType.Information = false
 
 -- the exchange has no use for the channel of the gateway's SETUP: another is to be seized
-abbrev pub wants_another : Message Heard → Call → Bool
+abbrev pub wants_another : Message DigitsPart → Call → Bool
 wants_another m k = is_release_complete m.kind && (is_in ExchangeSide.SetupSent k.exchange && is_unavailable m.elements.cause)
 
 -- an INVITE is refused where a call has its transaction, then where one holds its dialogue

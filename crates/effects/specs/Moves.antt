@@ -1,7 +1,7 @@
 -- What the code's moves, effects and rulings stand for: those of the rules, with the few messages as lists.
 use Rattle.std.specs.Prelude.{Ok, Err, Result}
 use Rattle.refusals.specs.declared.Ground.{Ground}
-use Rattle.queues.specs.Few.{listed}
+use Rattle.queues.specs.Few.{few_items}
 use Rattle.calls.specs.Effects as rules
 use Rattle.effects.specs.declared.effect.Effect.{Effect}
 use Rattle.effects.specs.declared.effect.ExchangeMove.{ExchangeMove}
@@ -9,14 +9,14 @@ use Rattle.effects.specs.declared.effect.SipMove.{SipMove}
 
 abbrev pub exchange_move_of : ExchangeMove → rules.ExchangeMove
 exchange_move_of a =
-    record { side = a.side; reference = a.reference; channel = a.channel; seized = a.seized; released = a.released; timer = a.timer; sent = listed a.sent }
+    record { side = a.side; reference = a.reference; channel = a.channel; seized = a.seized; released = a.released; timer = a.timer; sent = few_items a.sent }
 
 abbrev pub sip_move_of : SipMove → rules.SipMove
-sip_move_of b = record { side = b.side; cancelling = b.cancelling; sent = listed b.sent }
+sip_move_of b = record { side = b.side; cancelling = b.cancelling; sent = few_items b.sent }
 
 abbrev pub effect_of : Effect → rules.Effect
 effect_of e =
-    record { after = e.after; seized = e.report.seized; released = e.report.released; timer = e.report.timer; cancelling = e.report.cancelling; exchange = listed e.exchange; sip = listed e.sip; numbered = e.numbered }
+    record { after = e.after; seized = e.report.seized; released = e.report.released; timer = e.report.timer; cancelling = e.report.cancelling; exchange = few_items e.exchange; sip = few_items e.sip; numbered = e.numbered }
 
 -- an effect, or the ground of a refusal
 abbrev pub ruling_of : Result Effect Ground → rules.Ruling

@@ -1,7 +1,7 @@
 //! The two halves of a step, and both together.
 ghost use Rattle.std.specs.Prelude.{◌≡◌};
 ghost use Rattle.calls.specs.Effects.{unless_gone, redialled as redialling, moved as moving, made as making};
-ghost use Rattle.queues.specs.Few.{listed};
+ghost use Rattle.queues.specs.Few.{few_items};
 ghost use Rattle.effects.specs.Moves.{effect_of, exchange_move_of, sip_move_of};
 
 use calls::{Call, Digits, ExchangeSide, Report, SipMessage, SipSide, Timer};
@@ -80,7 +80,7 @@ pub fn moved(call: Call, a: ExchangeMove, b: SipMove) -> Effect
 
 /// A new call begins: its channel is seized, and its first message goes to the exchange.
 pub fn made(call: Call, first: Message<Digits>, sip: Few<SipMessage>, numbered: bool) -> Effect
-    ensures new_call_on_its_channel { effect_of result ≡ making call first (listed sip) numbered }
+    ensures new_call_on_its_channel { effect_of result ≡ making call first (few_items sip) numbered }
 {
     Effect {
         after: Some(call),

@@ -1,6 +1,6 @@
 //! The moves of the exchange side.
 ghost use Rattle.std.specs.Prelude.{◌≡◌};
-ghost use Rattle.queues.specs.Few.{listed};
+ghost use Rattle.queues.specs.Few.{few_items};
 ghost use Rattle.calls.specs.Effects.{stays as staying, enters as entering, ends as ending, clears_exchange, retries as retrying, releases as releasing};
 ghost use Rattle.effects.specs.Moves.{exchange_move_of};
 
@@ -13,7 +13,7 @@ use call_states::{is_uncleared, sent_cause, timer_of};
 
 /// The state stays, and its timer runs on.
 pub fn stays(call: Call, sent: Few<Message<Digits>>) -> ExchangeMove
-    ensures same_state_and_timer { exchange_move_of result ≡ staying call (listed sent) }
+    ensures same_state_and_timer { exchange_move_of result ≡ staying call (few_items sent) }
 {
     ExchangeMove {
         side: call.exchange,
@@ -28,7 +28,7 @@ pub fn stays(call: Call, sent: Few<Message<Digits>>) -> ExchangeMove
 
 /// A state is entered, and its timer starts.
 pub fn enters(call: Call, side: ExchangeSide, sent: Few<Message<Digits>>) -> ExchangeMove
-    ensures new_state_and_its_timer { exchange_move_of result ≡ entering call side (listed sent) }
+    ensures new_state_and_its_timer { exchange_move_of result ≡ entering call side (few_items sent) }
 {
     ExchangeMove {
         side,
@@ -39,7 +39,7 @@ pub fn enters(call: Call, side: ExchangeSide, sent: Few<Message<Digits>>) -> Exc
 
 /// The side is over, and its channel is released.
 pub fn ends(call: Call, sent: Few<Message<Digits>>) -> ExchangeMove
-    ensures over_and_its_channel_released { exchange_move_of result ≡ ending call (listed sent) }
+    ensures over_and_its_channel_released { exchange_move_of result ≡ ending call (few_items sent) }
 {
     ExchangeMove {
         side: ExchangeSide::Over,

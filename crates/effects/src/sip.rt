@@ -1,6 +1,6 @@
 //! The moves of the SIP side.
 ghost use Rattle.std.specs.Prelude.{◌≡◌};
-ghost use Rattle.queues.specs.Few.{listed};
+ghost use Rattle.queues.specs.Few.{few_items};
 ghost use Rattle.calls.specs.Effects.{becomes as becoming, keeps as keeping, number_of, clears_from, clears_sip, invites as inviting, responds_from, answers_from, leaves_from};
 ghost use Rattle.effects.specs.Moves.{sip_move_of};
 
@@ -16,7 +16,7 @@ const REQUEST_TERMINATED: u16 = 487;
 
 /// The side is then in this state, and no timer starts.
 pub fn becomes(side: SipSide, sent: Few<SipMessage>) -> SipMove
-    ensures state_without_timer { sip_move_of result ≡ becoming side (listed sent) }
+    ensures state_without_timer { sip_move_of result ≡ becoming side (few_items sent) }
 {
     SipMove {
         side,

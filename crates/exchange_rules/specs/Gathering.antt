@@ -2,7 +2,7 @@
 use Rattle.std.specs.Prelude.{◌≡◌, Bool, true, false, Some, None, Option, cond, ◌&&◌, ◌||◌, [], ℕ, ◌==◌, nat_le}
 use Rattle.messages.specs.declared.record.Message.{Message}
 use Rattle.messages.specs.declared.record.Part.{Part}
-use Rattle.messages.specs.Elements.{Digits as Heard}
+use Rattle.messages.specs.Elements.{DigitsPart}
 use Rattle.reader.specs.Seen.{seen_record}
 use Rattle.calls.specs.declared.record.Call.{Call}
 use Rattle.calls.specs.declared.record.Digits.{Digits}
@@ -20,7 +20,7 @@ gathered full complete k ds =
     cond (complete && ds.count == 0) (spurns k ds) (cond (complete || nat_le full ds.count) (proceeds k ds) (awaiting k ds))
 
 -- the digits of a SETUP cannot be a number
-abbrev pub misdialled : Message Heard → Bool
+abbrev pub misdialled : Message DigitsPart → Bool
 misdialled m = is_too_many (heard_digits m) || is_empty_whole m (heard_digits m)
 
 -- the SETUP as it came, or nothing where its digits cannot be a number

@@ -9,7 +9,7 @@ use Rattle.calls.specs.Effects.{Effect}
 use Rattle.calls.specs.Rules.{State, Event, Outcome, Refuse, Reply, Move, TookExchange, TookSip}
 use Rattle.calls.proofs.Sounds.{sound_tested}
 use Rattle.calls.proofs.Steps.{Lawful}
-use Rattle.call_table.specs.Tokens.{channel_of, token_of}
+use Rattle.call_table.specs.Tokens.{token_channel, token_of}
 use Rattle.call_table.specs.Records.{holding, MayHold}
 use Rattle.gateway.specs.Stands.{Ready, Possible}
 
@@ -17,7 +17,7 @@ same : (a : ℕ) → eqb a a ≡ true
 same a = eq-eqb a a refl
 
 -- with no seizure a place goes on holding its channel, or it is released
-kept : (x y r : Option ℕ) → ((c : ℕ) → named c x ≡ named c r + named c y) → MayHold x y × (channel_of (cond (is_some y) None (token_of x)) ≡ r)
+kept : (x y r : Option ℕ) → ((c : ℕ) → named c x ≡ named c r + named c y) → MayHold x y × (token_channel (cond (is_some y) None (token_of x)) ≡ r)
 kept None None None h = (tt, refl)
 kept None None (Some z) h = absurd (let e = h z in let s = same z in grind (arith, nat_tests))
 kept None (Some b) r h = absurd (let e = h b in let s = same b in grind (arith, nat_tests))

@@ -4,12 +4,12 @@ use Rattle.std.proofs.lemmas.Bool.{cond-false, cond_both, eqb-true}
 use Rattle.std.proofs.lemmas.Bool.Decides.{nat_tests}
 use Rattle.messages.specs.declared.record.Channel.{Channel}
 use Rattle.messages.specs.declared.record.Message.{Message}
-use Rattle.messages.specs.Elements.{Digits as Heard}
+use Rattle.messages.specs.Elements.{DigitsPart}
 use Rattle.pools.specs.States.{idle, AnyWasIdle}
 use Rattle.calls.specs.declared.record.Call.{Call}
 use Rattle.calls.specs.declared.sides.ExchangeSide.{ExchangeSide}
 use Rattle.calls.specs.Words.{stage, is_in, is_over}
-use Rattle.calls.specs.Standing.{is_sound, fits, SoundAt}
+use Rattle.calls.specs.Standing.{is_sound, sides_agree, SoundAt}
 use Rattle.calls.specs.Effects.{Effect, Ruling, Refuses, Does, tries_again, on_type, begins, is_whole, heard_digits}
 use Rattle.calls.specs.Rules.{State, Outcome, Move, Did, TakeExchange, at, rejects, takes_any, wishes, seats, answer_of, applied}
 use Rattle.calls.specs.declared.answers.Answer.{Answer}
@@ -20,7 +20,7 @@ use Rattle.calls.proofs.Locals.{Keeps, tries_again_lem, on_type_lem}
 use Rattle.calls.proofs.Places.{everywhere_at}
 use Rattle.calls.proofs.Sounds.{sound_everywhere, sound_tested}
 use Rattle.call_table.specs.declared.token.Token.{Token}
-use Rattle.call_table.specs.Tokens.{channel_of, token_of}
+use Rattle.call_table.specs.Tokens.{token_channel, token_of}
 use Rattle.call_table.specs.Records.{holding}
 use Rattle.call_table.specs.Wishes.{WishGets}
 use Rattle.decisions.specs.Outcomes.{busy_cause, wants_another}
@@ -30,7 +30,7 @@ use Rattle.gateway.proofs.Unseizing.{type_still, unpicked}
 
 -- ---------------------------------------------------------------- a call that stands at its place
 module _ (st : State) (len : length st.table ≡ 64) (sound : is_sound st.table ≡ true) (i : ℕ) (k : Call) (inside : i < 64) (here : get_or st.table i None ≡ Some k) where
-  sound_call : fits k.exchange k.sip ≡ true
+  sound_call : sides_agree k.exchange k.sip ≡ true
   sound_call = subst SoundAt here (everywhere_at SoundAt tt st.table i (sound_everywhere st.table sound))
 
   -- a balance at the call is one at its place
@@ -44,12 +44,12 @@ module _ (st : State) (len : length st.table ≡ 64) (sound : is_sound st.table 
       record {
         inside = inside;
         enters = refl;
-        leaves = ap (λ (o : Option Call). channel_of (token_of (holding o))) here ∙ ap (λ (x : Option ℕ). channel_of (token_of x)) (cond-false (is_over k.exchange) None (Some k.channel) live);
+        leaves = ap (λ (o : Option Call). token_channel (token_of (holding o))) here ∙ ap (λ (x : Option ℕ). token_channel (token_of x)) (cond-false (is_over k.exchange) None (Some k.channel) live);
         sound = sound_tested (tries_again (Some t.channel) k).after s;
       }
 
   -- SETUP again on another channel, or both sides end
-  pub ready_again : is_in ExchangeSide.SetupSent k.exchange ≡ true → (token : Option Token) → AnyWasIdle (channel_of token) st.pool → Ready st.table i (tries_again (channel_of token) k).after (tries_again (channel_of token) k).released token
+  pub ready_again : is_in ExchangeSide.SetupSent k.exchange ≡ true → (token : Option Token) → AnyWasIdle (token_channel token) st.pool → Ready st.table i (tries_again (token_channel token) k).after (tries_again (token_channel token) k).released token
   ready_again waits None h =
       let five : stage k.exchange ≡ 5 = eqb-true _ _ waits in
       let live : is_over k.exchange ≡ false = grind (arith, nat_tests) in
@@ -64,7 +64,7 @@ module _ (st : State) (len : length st.table ≡ 64) (sound : is_sound st.table 
   ruled (Does e) b u = (placed e b u, u)
 
   -- a message that asks for no other channel
-  pub possible_at : Bounded st.pool → is_over k.exchange ≡ false → (full : ℕ) (m : Message Heard) → wants_another m k ≡ false → Possible st.table (at i (on_type full None m k m.kind))
+  pub possible_at : Bounded st.pool → is_over k.exchange ≡ false → (full : ℕ) (m : Message DigitsPart) → wants_another m k ≡ false → Possible st.table (at i (on_type full None m k m.kind))
   possible_at b live full m e =
       let p = fair_pick st.pool b in
       ruled (on_type full None m k m.kind)
@@ -81,19 +81,19 @@ module _ (places : List (Option Call)) (i : ℕ) (inside : i < 64) (free : get_o
   abbrev EntersAt : Effect → Type 0
   EntersAt e = Ready places i e.after e.released (Some t)
 
-  out : channel_of (token_of (holding (get_or places i None))) ≡ None
-  out = ap (λ (o : Option Call). channel_of (token_of (holding o))) free
+  out : token_channel (token_of (holding (get_or places i None))) ≡ None
+  out = ap (λ (o : Option Call). token_channel (token_of (holding o))) free
 
-  pub ready_begins : (full : ℕ) (m : Message Heard) (n : ℕ) → EntersAt (begins full m n t.channel)
+  pub ready_begins : (full : ℕ) (m : Message DigitsPart) (n : ℕ) → EntersAt (begins full m n t.channel)
   ready_begins full m n =
       cond_both (is_whole full m (heard_digits m)) _ _ EntersAt
       (λ _. record { inside = inside; enters = refl; leaves = out; sound = refl }) (λ _. record { inside = inside; enters = refl; leaves = out; sound = refl })
 
-pub begins_seizes : (full : ℕ) (m : Message Heard) (n c : ℕ) → (begins full m n c).seized ≡ Some c
+pub begins_seizes : (full : ℕ) (m : Message DigitsPart) (n c : ℕ) → (begins full m n c).seized ≡ Some c
 begins_seizes full m n c = cond_both (is_whole full m (heard_digits m)) _ _ (λ (e : Effect). e.seized ≡ Some c) (λ _. refl) (λ _. refl)
 
 -- ---------------------------------------------------------------- wishes
-module _ (st : State) (b : Bounded st.pool) (m : Message Heard) (i n : ℕ) where
+module _ (st : State) (b : Bounded st.pool) (m : Message DigitsPart) (i n : ℕ) where
   -- what a wish that got this channel, or none, comes to; a wish that got none is answered with this cause
   abbrev pub given : ℕ → Option ℕ → Outcome
   given v None = rejects m v

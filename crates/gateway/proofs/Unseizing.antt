@@ -4,7 +4,7 @@ use Rattle.std.proofs.lemmas.Bool.{cond-false, cond_both}
 use Rattle.messages.specs.declared.kind.MessageType.{MessageType}
 use Rattle.messages.specs.declared.record.Cause.{Cause}
 use Rattle.messages.specs.declared.record.Message.{Message}
-use Rattle.messages.specs.Elements.{Digits as Heard}
+use Rattle.messages.specs.Elements.{DigitsPart}
 use Rattle.messages.specs.Types.{is_setup}
 use Rattle.calls.specs.declared.answers.Timer.{Timer}
 use Rattle.calls.specs.declared.record.Call.{Call}
@@ -102,11 +102,11 @@ response_still table n s d media =
     (λ _. cond_both (leb 201 s && leb s 299) _ _ Unseizing (λ _. tt) (λ _. called (on_other s media) (other_rules s media) (seek (by_awaited_number n) table)))
 
 -- a message at its call, where no other channel is asked for
-collect_still : (full : ℕ) (m : Message Heard) (k : Call) (xs : List ℕ) → (collects full m k xs).seized ≡ None
+collect_still : (full : ℕ) (m : Message DigitsPart) (k : Call) (xs : List ℕ) → (collects full m k xs).seized ≡ None
 collect_still full m k xs =
     either_still (is_too_many xs) _ _ (clears_still k (ours 28)) (either_still (is_empty_whole m xs) _ _ (clears_still k (ours 28)) (either_still (is_whole full m xs) _ _ refl refl))
 
-type_rules : (full : ℕ) (m : Message Heard) (k : Call) (kind : MessageType) → Still (on_type full None m k kind)
+type_rules : (full : ℕ) (m : Message DigitsPart) (k : Call) (kind : MessageType) → Still (on_type full None m k kind)
 type_rules full m k MessageType.Alerting = only_still _ _ refl
 type_rules full m k MessageType.CallProceeding = only_still _ _ refl
 type_rules full m k MessageType.Progress = only_still _ _ refl
@@ -119,11 +119,11 @@ type_rules full m k MessageType.Release = either_still (is_unreleased k.exchange
 type_rules full m k MessageType.ReleaseComplete = either_still (is_in ExchangeSide.SetupSent k.exchange && is_unavailable m.elements.cause) _ _ refl refl
 type_rules full m k MessageType.Information = only_still _ _ (collect_still full m k (joined k m))
 
-pub type_still : (full i : ℕ) (m : Message Heard) (k : Call) (kind : MessageType) → Unseizing (at i (on_type full None m k kind))
+pub type_still : (full i : ℕ) (m : Message DigitsPart) (k : Call) (kind : MessageType) → Unseizing (at i (on_type full None m k kind))
 type_still full i m k kind = placed i (on_type full None m k kind) (type_rules full m k kind)
 
 -- only where another channel is asked for does the picked one matter
-module _ (full : ℕ) (pick : Option ℕ) (m : Message Heard) (k : Call) where
+module _ (full : ℕ) (pick : Option ℕ) (m : Message DigitsPart) (k : Call) where
   abbrev asks : Bool
   asks = is_in ExchangeSide.SetupSent k.exchange && is_unavailable m.elements.cause
 
@@ -143,7 +143,7 @@ module _ (full : ℕ) (pick : Option ℕ) (m : Message Heard) (k : Call) where
   pub unpicked : wants_another m k ≡ false → on_type full pick m k m.kind ≡ on_type full None m k m.kind
   unpicked e = unpicked_type m.kind e
 
-pub turned_away_lem : (st : State) (ch : Choice) (m : Message Heard) (kind : MessageType) → is_setup kind ≡ false → uncalled st ch m kind ≡ turned_away m kind
+pub turned_away_lem : (st : State) (ch : Choice) (m : Message DigitsPart) (kind : MessageType) → is_setup kind ≡ false → uncalled st ch m kind ≡ turned_away m kind
 turned_away_lem st ch m MessageType.Alerting e = refl
 turned_away_lem st ch m MessageType.CallProceeding e = refl
 turned_away_lem st ch m MessageType.Progress e = refl
@@ -156,7 +156,7 @@ turned_away_lem st ch m MessageType.Release e = refl
 turned_away_lem st ch m MessageType.ReleaseComplete e = refl
 turned_away_lem st ch m MessageType.Information e = refl
 
-pub turned_still : (m : Message Heard) (kind : MessageType) → Unseizing (turned_away m kind)
+pub turned_still : (m : Message DigitsPart) (kind : MessageType) → Unseizing (turned_away m kind)
 turned_still m MessageType.Alerting = tt
 turned_still m MessageType.CallProceeding = tt
 turned_still m MessageType.Progress = tt
@@ -169,7 +169,7 @@ turned_still m MessageType.Release = tt
 turned_still m MessageType.ReleaseComplete = tt
 turned_still m MessageType.Information = tt
 
-pub setup_begins : (st : State) (ch : Choice) (m : Message Heard) (kind : MessageType) → is_setup kind ≡ true → uncalled st ch m kind ≡ on_setup st ch m
+pub setup_begins : (st : State) (ch : Choice) (m : Message DigitsPart) (kind : MessageType) → is_setup kind ≡ true → uncalled st ch m kind ≡ on_setup st ch m
 setup_begins st ch m MessageType.Alerting e = absurd (grind arith)
 setup_begins st ch m MessageType.CallProceeding e = absurd (grind arith)
 setup_begins st ch m MessageType.Progress e = absurd (grind arith)

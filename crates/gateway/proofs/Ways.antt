@@ -50,4 +50,4 @@ module _ (st : State) where
 pub found_live : (r : CallReference) (table : List (Option Call)) (f : Found) → Some f ≡ seek (by_reference r) table → is_over f.call.exchange ≡ false
 found_live r table f e =
     let p = by_reference r in
-    live_by r f.call (subst (λ (o : Option Found). MatchOption o (Misses p table) (Finds p table)) (sym e) (seek_tells p table)).fits
+    live_by r f.call (subst (λ (o : Option Found). MatchOption o (Misses p table) (Finds p table)) (sym e) (seek_tells p table)).matches

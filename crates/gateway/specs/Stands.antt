@@ -9,7 +9,7 @@ use Rattle.calls.specs.Standing.{is_sound_at}
 use Rattle.calls.specs.Rules.{State, Outcome, Refuse, Reply, Move, TookExchange, TookSip}
 use Rattle.calls.specs.Run.{Opening, Run}
 use Rattle.call_table.specs.declared.token.Token.{Token}
-use Rattle.call_table.specs.Tokens.{channel_of}
+use Rattle.call_table.specs.Tokens.{token_channel}
 use Rattle.call_table.specs.Records.{Enters, left}
 use Rattle.call_table.specs.Wishes.{WishGets}
 use Rattle.gateway.specs.declared.gateway.Gateway.{Gateway}
@@ -37,7 +37,7 @@ pub record Begins {P : Type 0} {G : Ghosts P} (state : P → States) (g : Gatewa
 pub record Ready (places : List (Option Call)) (place : ℕ) (after : Option Call) (released : Option ℕ) (token : Option Token) : Type 0 where
   pub inside : place < 64
   pub enters : Enters (slice_index_or places place None) after token
-  pub leaves : channel_of (left (slice_index_or places place None) after token) ≡ released
+  pub leaves : token_channel (left (slice_index_or places place None) after token) ≡ released
   pub sound : is_sound_at after ≡ true
 
 -- an outcome that seizes nothing can be carried out

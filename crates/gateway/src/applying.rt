@@ -1,7 +1,7 @@
 //! The one place where effects are applied.
 ghost use Rattle.std.specs.Prelude.{◌≡◌, ℕ, true};
 ghost use Rattle.calls.specs.Rules.{is_roomy, reported, freed, settled};
-ghost use Rattle.call_table.specs.Tokens.{channel_of};
+ghost use Rattle.call_table.specs.Tokens.{token_channel};
 ghost use Rattle.effects.specs.Moves.{effect_of};
 ghost use Rattle.gateway.specs.Stands.{state_of, Ready};
 
@@ -15,7 +15,7 @@ use sip_rules::following;
 
 /// The channel that a place no longer holds is released.
 fn give_back<P: Pool>(trunk: &mut Trunk<P>, left: Option<Token>)
-    ensures released_if_there_is_one { (k : ℕ) → P.Pool.state trunk.new.pool k ≡ freed (channel_of left) (P.Pool.state trunk.old.pool) k }
+    ensures released_if_there_is_one { (k : ℕ) → P.Pool.state trunk.new.pool k ≡ freed (token_channel left) (P.Pool.state trunk.old.pool) k }
 {
     if let Some(token) = left {
         let _ = trunk.release(token);

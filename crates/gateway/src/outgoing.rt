@@ -1,6 +1,6 @@
 //! The two outgoing queues, which always go together, and answers that touch no call.
 ghost use Rattle.std.specs.Prelude.{◌≡◌, ◌≤◌, [], ◌∷◌, ◌++◌, length, true, false, MatchResult};
-ghost use Rattle.queues.specs.Few.{listed};
+ghost use Rattle.queues.specs.Few.{few_items};
 ghost use Rattle.queues.specs.Waiting.{waiting, room, free};
 ghost use Rattle.calls.specs.declared.outgoing.SipMessage.TheVariants.{Response};
 ghost use Rattle.refusals.specs.declared.Ground.TheVariants.{QueueFull};
@@ -42,7 +42,7 @@ impl<'a> Outgoing<'a> {
     pub(crate) fn send(&mut self, exchange: Few<Message<Digits>>, sip: Few<SipMessage>)
         requires room { has_two_places self.old ≡ true }
         ensures rooms_stay { (room self.new.exchange ≡ room self.old.exchange) × (room self.new.sip ≡ room self.old.sip) }
-        ensures wait_last { (waiting self.new.exchange ≡ waiting self.old.exchange ++ listed exchange) × (waiting self.new.sip ≡ waiting self.old.sip ++ listed sip) }
+        ensures wait_last { (waiting self.new.exchange ≡ waiting self.old.exchange ++ few_items exchange) × (waiting self.new.sip ≡ waiting self.old.sip ++ few_items sip) }
     {
         self.exchange.add_few(exchange);
         self.sip.add_few(sip);

@@ -7,7 +7,7 @@ ghost use Rattle.calls.specs.Words.{is_in};
 ghost use Rattle.calls.specs.Effects.{tries_again};
 ghost use Rattle.calls.specs.Rules.{Did, Move, calls_out, wishes, on_setup, is_roomy};
 ghost use Rattle.call_table.specs.Keys.{Within};
-ghost use Rattle.call_table.specs.Tokens.{channel_of};
+ghost use Rattle.call_table.specs.Tokens.{token_channel};
 ghost use Rattle.reader.specs.Seen.{seen_record};
 ghost use Rattle.gateway.specs.Stands.{state_of, Granted};
 
@@ -26,16 +26,16 @@ use sip_rules::invited;
 const SWITCHING_EQUIPMENT_CONGESTION: u8 = 42;
 
 /// The channel of a token, if there is one.
-fn channel_of(token: &Option<Token>) -> Option<u8>
-    ensures answers_its_channel { result ≡ channel_of token.now }
+fn token_channel(token: &Option<Token>) -> Option<u8>
+    ensures answers_its_channel { result ≡ token_channel token.now }
 {
     token.as_ref().map(Token::channel)
 }
 
 /// The token that the wish for a channel gets.
 fn seize_for<P: Pool>(trunk: &mut Trunk<P>, wish: Option<Channel>) -> Option<Token>
-    ensures the_wished_or_any_or_none { Granted (P.Pool.state trunk.old.pool) wish (channel_of result) }
-    ensures seizes_it_alone { (k : ℕ) → P.Pool.state trunk.new.pool k ≡ after_any (channel_of result) (P.Pool.state trunk.old.pool) k }
+    ensures the_wished_or_any_or_none { Granted (P.Pool.state trunk.old.pool) wish (token_channel result) }
+    ensures seizes_it_alone { (k : ℕ) → P.Pool.state trunk.new.pool k ≡ after_any (token_channel result) (P.Pool.state trunk.old.pool) k }
 {
     match wish {
         Some(wish) => trunk.seize_wished(wish),
@@ -52,7 +52,7 @@ impl<P: Pool> Gateway<P> {
         ensures another_channel_or_none { Did (state_of P.Pool.state self.old queues.old) (λ ch. Move found.place (tries_again ch.pick found.call)) (Step (Ok result)) (state_of P.Pool.state self.new queues.new) }
     {
         let token = self.trunk.seize_any();
-        let effect = tries_again(channel_of(&token), found.call);
+        let effect = tries_again(token_channel(&token), found.call);
         self.apply(queues, found.place, effect, token)
     }
 

@@ -4,11 +4,11 @@ use Rattle.std.proofs.lemmas.List.{drop-drop}
 use Rattle.refusals.specs.declared.Ground.TheVariants.{BadElement, ElementPastEnd}
 use Rattle.messages.specs.declared.record.Elements.{Elements}
 use Rattle.messages.specs.declared.record.Misread.{Misread}
-use Rattle.messages.specs.Elements.{Digits, cause_of, channel_of, progress_of, digits_of, with_cause, with_channel, with_progress, with_digits, with_complete, absent, kept, noted, bare}
-use Rattle.messages.specs.Reading.{onward, gathered}
+use Rattle.messages.specs.Elements.{DigitsPart, cause_of, channel_of, progress_of, digits_of, with_cause, with_channel, with_progress, with_digits, with_complete, absent, kept, noted, bare}
+use Rattle.messages.specs.Reading.{and_then, elements_from}
 
 -- these digits, if any, are that part of the octets
-abbrev pub Inside : List ℕ → Option Digits → Type 0
+abbrev pub Inside : List ℕ → Option DigitsPart → Type 0
 Inside octets None = Unit {0}
 Inside octets (Some d) = d.octets ≡ take (length d.octets) (drop d.place octets)
 
@@ -19,24 +19,24 @@ same : {B : Type 0} (x y : B) → ◌≡◌ {A = Result B Misread} (Ok x) (Ok y)
 same x y h = cc
 
 -- what holds of the elements where they could be read
-abbrev Keeps : (Elements Digits → Type 0) → Result (Elements Digits) Misread → Type 0
-Keeps P r = (e : Elements Digits) → r ≡ Ok e → P e
+abbrev Keeps : (Elements DigitsPart → Type 0) → Result (Elements DigitsPart) Misread → Type 0
+Keeps P r = (e : Elements DigitsPart) → r ≡ Ok e → P e
 
-read_so : (P : Elements Digits → Type 0) (s : Elements Digits) → P s → Keeps P (Ok s)
+read_so : (P : Elements DigitsPart → Type 0) (s : Elements DigitsPart) → P s → Keeps P (Ok s)
 read_so P s p e h = subst P (same s e h) p
 
-refused : (P : Elements Digits → Type 0) (m : Misread) → Keeps P (Err m)
+refused : (P : Elements DigitsPart → Type 0) (m : Misread) → Keeps P (Err m)
 refused P m e h = never e m h
 
-tested : (P : Elements Digits → Type 0) (t : Bool) (f g : Result (Elements Digits) Misread) → Keeps P f → Keeps P g → Keeps P (cond t f g)
+tested : (P : Elements DigitsPart → Type 0) (t : Bool) (f g : Result (Elements DigitsPart) Misread) → Keeps P f → Keeps P g → Keeps P (cond t f g)
 tested P true f g a b = a
 tested P false f g a b = b
 
-keeping : {B : Type 0} (P : Elements Digits → Type 0) (place : ℕ) (o : Option B) (take : Option B → Elements Digits) → P (take o) → Keeps P (kept place o take)
+keeping : {B : Type 0} (P : Elements DigitsPart → Type 0) (place : ℕ) (o : Option B) (take : Option B → Elements DigitsPart) → P (take o) → Keeps P (kept place o take)
 keeping P place None take p = refused P _
 keeping P place (Some x) take p = read_so P (take (Some x)) p
 
-followed : (P : Elements Digits → Type 0) (r : Result (Elements Digits) Misread) (next : Elements Digits → Result (Elements Digits) Misread) (Q : Elements Digits → Type 0) → Keeps Q r → ((s : Elements Digits) → Q s → Keeps P (next s)) → Keeps P (onward r next)
+followed : (P : Elements DigitsPart → Type 0) (r : Result (Elements DigitsPart) Misread) (next : Elements DigitsPart → Result (Elements DigitsPart) Misread) (Q : Elements DigitsPart → Type 0) → Keeps Q r → ((s : Elements DigitsPart) → Q s → Keeps P (next s)) → Keeps P (and_then r next)
 followed P (Ok s) next Q q k = k s (q s refl)
 followed P (Err m) next Q q k = refused P m
 
@@ -55,7 +55,7 @@ part (suc n) (y ∷ ys) = front n ys
 later : (octets : List ℕ) (place k : ℕ) (xs : List ℕ) → drop place octets ≡ xs → drop (place + k) octets ≡ drop k xs
 later octets place k xs h = sym (drop-drop k place octets) ∙ ap (drop k) h
 
-by_test : (octets : List ℕ) (t : Bool) (d : Digits) → Inside octets (Some d) → Inside octets (cond t (Some d) None)
+by_test : (octets : List ℕ) (t : Bool) (d : DigitsPart) → Inside octets (Some d) → Inside octets (cond t (Some d) None)
 by_test octets true d i = i
 by_test octets false d i = tt
 
@@ -66,9 +66,9 @@ brought octets place n ys h =
     by_test octets _ _ (part n ys ∙ ap (take (length (drop 1 (take n ys)))) (sym d))
 
 -- one more element leaves the digits, or brings those of its contents
-noted_inside : (octets : List ℕ) (id place : ℕ) (contents : List ℕ) (s : Elements Digits) → Inside octets s.digits → Inside octets (digits_of place contents) → Keeps (λ e. Inside octets e.digits) (noted id place contents s)
+noted_inside : (octets : List ℕ) (id place : ℕ) (contents : List ℕ) (s : Elements DigitsPart) → Inside octets s.digits → Inside octets (digits_of place contents) → Keeps (λ e. Inside octets e.digits) (noted id place contents s)
 noted_inside octets id place contents s i b =
-    let P : Elements Digits → Type 0 = λ e. Inside octets e.digits in
+    let P : Elements DigitsPart → Type 0 = λ e. Inside octets e.digits in
     tested P (leb 144 id && leb id 159) _ _ (refused P (record { ground = BadElement; place = place }))
     (tested P (eqb id 161) _ _ (read_so P (with_complete s) i)
     (tested P (eqb id 8 && absent s.cause) _ _ (keeping P place (cause_of contents) (with_cause s) i)
@@ -76,19 +76,19 @@ noted_inside octets id place contents s i b =
     (tested P (eqb id 30 && absent s.progress) _ _ (keeping P place (progress_of contents) (with_progress s) i)
     (tested P (eqb id 112 && absent s.digits) _ _ (keeping P place (digits_of place contents) (with_digits s) b) (read_so P s i))))))
 
-gathered_inside : (octets : List ℕ) (k place : ℕ) (xs : List ℕ) (s : Elements Digits) → drop place octets ≡ xs → Inside octets s.digits → Keeps (λ e. Inside octets e.digits) (gathered k place xs s)
+gathered_inside : (octets : List ℕ) (k place : ℕ) (xs : List ℕ) (s : Elements DigitsPart) → drop place octets ≡ xs → Inside octets s.digits → Keeps (λ e. Inside octets e.digits) (elements_from k place xs s)
 gathered_inside octets k place [] s h i = read_so (λ e. Inside octets e.digits) s i
 gathered_inside octets (suc k) place (x ∷ xs) s h i = gathered_inside octets k (place + 1) xs s (later octets place 1 (x ∷ xs) h) i
 gathered_inside octets zero place (x ∷ xs) s h i =
-    let P : Elements Digits → Type 0 = λ e. Inside octets e.digits in
+    let P : Elements DigitsPart → Type 0 = λ e. Inside octets e.digits in
     let next = later octets place 1 (x ∷ xs) h in
     tested P (leb 128 x) _ _
-    (followed P (noted x place [] s) (λ m. gathered 0 (place + 1) xs m) P (noted_inside octets x place [] s i tt) (λ m j. gathered_inside octets 0 (place + 1) xs m next j))
+    (followed P (noted x place [] s) (λ m. elements_from 0 (place + 1) xs m) P (noted_inside octets x place [] s i tt) (λ m j. gathered_inside octets 0 (place + 1) xs m next j))
     (tested P (ltb (length xs) (get_or xs 0 0 + 1)) _ _ (refused P (record { ground = ElementPastEnd; place = place }))
-    (followed P (noted x place (take (get_or xs 0 0) (drop 1 xs)) s) (λ m. gathered (get_or xs 0 0 + 1) (place + 1) xs m) P
+    (followed P (noted x place (take (get_or xs 0 0) (drop 1 xs)) s) (λ m. elements_from (get_or xs 0 0 + 1) (place + 1) xs m) P
     (noted_inside octets x place (take (get_or xs 0 0) (drop 1 xs)) s i (brought octets place (get_or xs 0 0) (drop 1 xs) (later octets place 2 (x ∷ xs) h)))
     (λ m j. gathered_inside octets (get_or xs 0 0 + 1) (place + 1) xs m next j)))
 
 -- the digits of a message are that part of its octets
-pub read_inside : (octets : List ℕ) (e : Elements Digits) → gathered 0 5 (drop 5 octets) bare ≡ Ok e → Inside octets e.digits
+pub read_inside : (octets : List ℕ) (e : Elements DigitsPart) → elements_from 0 5 (drop 5 octets) bare ≡ Ok e → Inside octets e.digits
 read_inside octets e h = gathered_inside octets 0 5 (drop 5 octets) bare refl tt e h

@@ -9,7 +9,7 @@ use Rattle.messages.specs.declared.record.Elements.{Elements}
 use Rattle.messages.specs.declared.record.Message.{Message}
 use Rattle.messages.specs.Types.{code_of, type_of, is_setup}
 use Rattle.messages.specs.Elements.{bare, with_digits}
-use Rattle.messages.specs.Reading.{headed, gathered, bad_reference, lacking, whole, onward}
+use Rattle.messages.specs.Reading.{headed, elements_from, bad_reference, lacking, whole, and_then}
 use Rattle.messages.specs.Writing.{complete_octets, bearer_octets, cause_octets, channel_octets, progress_octets, element_octets, head_octets, encoded, reference_fits, cause_fits, channel_fits, progress_fits, digits_fit}
 use Rattle.messages.specs.Laws.{digits_place, as_read, RoundTrip, LayoutExamples}
 use Rattle.messages.proofs.Passing.{seen, past_complete, past_bearer, past_cause, past_channel, past_progress, past_digits}
@@ -50,7 +50,7 @@ head_back r kind rest h =
     let t : ltb (suc (suc (suc (suc (suc (length rest)))))) 5 ≡ false = le-ltb _ _ (omega arith) in
     simp (t, type_back kind, flag_back r.flag r.number high, number_back r.flag r.number high, sound_reference r kind low parts.1)
 
-elements_back : (kind : MessageType) (e : Elements (List ℕ)) → cause_fits e.cause ≡ true → channel_fits e.channel ≡ true → progress_fits e.progress ≡ true → digits_fit e.digits ≡ true → gathered 0 5 (element_octets kind e) bare ≡ Ok (with_digits (seen e.complete e.cause e.channel e.progress) (option_map (λ ds. record { place = 5 + length (complete_octets e.complete) + length (bearer_octets kind) + length (cause_octets e.cause) + length (channel_octets e.channel) + length (progress_octets e.progress) + 3; octets = ds }) e.digits))
+elements_back : (kind : MessageType) (e : Elements (List ℕ)) → cause_fits e.cause ≡ true → channel_fits e.channel ≡ true → progress_fits e.progress ≡ true → digits_fit e.digits ≡ true → elements_from 0 5 (element_octets kind e) bare ≡ Ok (with_digits (seen e.complete e.cause e.channel e.progress) (option_map (λ ds. record { place = 5 + length (complete_octets e.complete) + length (bearer_octets kind) + length (cause_octets e.cause) + length (channel_octets e.channel) + length (progress_octets e.progress) + 3; octets = ds }) e.digits))
 elements_back kind e c ch p d =
     past_complete e.complete _
     ∙ past_bearer (is_setup kind) _ _ _
@@ -76,8 +76,8 @@ round_trip m f l =
     let ends = and_parts _ _ last.1 in
     let h = head_back m.reference m.kind (element_octets m.kind m.elements) all.0 in
     let e = elements_back m.kind m.elements behind.0 last.0 ends.0 ends.1 in
-    ap (λ r. onward r (λ x. onward (gathered 0 5 x.elements bare) (λ y. whole (length (encoded m)) x y))) h
-    ∙ ap (λ r. onward r (λ y. whole (length (encoded m)) (record { reference = m.reference; kind = m.kind; elements = element_octets m.kind m.elements }) y)) e
+    ap (λ r. and_then r (λ x. and_then (elements_from 0 5 x.elements bare) (λ y. whole (length (encoded m)) x y))) h
+    ∙ ap (λ r. and_then r (λ y. whole (length (encoded m)) (record { reference = m.reference; kind = m.kind; elements = element_octets m.kind m.elements }) y)) e
     ∙ joined (length (encoded m)) _ m m.elements.digits refl (λ ds d. same_place m ds d) l
 
 pub layout_examples : LayoutExamples

@@ -1,4 +1,4 @@
--- What each information element holds, by its contents, and how a message's elements are gathered.
+-- What each information element holds, by its contents, and how a message's elements are elements_from.
 use Rattle.std.specs.Prelude.{ℕ, ◌+◌, ◌%◌, Bool, true, false, cond, ◌&&◌, ◌||◌, List, length, drop, Some, None, Ok, Err, Option, Result, ◌==◌, nat_le, slice_index}
 use Rattle.std.specs.List.{list_all}
 use Rattle.refusals.specs.declared.Ground.{Ground}
@@ -9,7 +9,7 @@ use Rattle.messages.specs.declared.record.Elements.{Elements}
 use Rattle.messages.specs.declared.record.Misread.{Misread}
 
 -- the called number's digits as values: where they begin in the message, and what they are
-pub record Digits : Type 0 where
+pub record DigitsPart : Type 0 where
   pub place : ℕ
   pub octets : List ℕ
 
@@ -37,7 +37,7 @@ abbrev pub progress_of : List ℕ → Option ℕ
 progress_of xs = cond (length xs == 2 && (nat_le 128 (slice_index xs 0) && nat_le 128 (slice_index xs 1))) (Some (slice_index xs 1 % 128)) None
 
 -- Called number: one content from 80 up, then digits, perhaps none; they begin three octets behind the element's first
-abbrev pub digits_of : ℕ → List ℕ → Option Digits
+abbrev pub digits_of : ℕ → List ℕ → Option DigitsPart
 digits_of place xs =
     cond (nat_le 1 (length xs) && (nat_le 128 (slice_index xs 0) && all_digits (drop 1 xs)))
     (Some (record { place = place + 3; octets = drop 1 xs })) None
@@ -70,12 +70,12 @@ abbrev pub misread : (ground : Ground) → ℕ → Misread
 misread ground place = record { ground = ground; place = place }
 
 -- an element that was read keeps its layout, or the message is refused at the element's first octet
-abbrev pub kept : {B : Type 0} → ℕ → Option B → (Option B → Elements Digits) → Result (Elements Digits) Misread
+abbrev pub kept : {B : Type 0} → ℕ → Option B → (Option B → Elements DigitsPart) → Result (Elements DigitsPart) Misread
 kept place None take = Err (misread BadElement place)
 kept place (Some x) take = Ok (take (Some x))
 
 -- one element joins those seen before it: the first of each kind is read, 90 to 9F are refused, all else is skipped
-abbrev pub noted : ℕ → ℕ → List ℕ → Elements Digits → Result (Elements Digits) Misread
+abbrev pub noted : ℕ → ℕ → List ℕ → Elements DigitsPart → Result (Elements DigitsPart) Misread
 noted id place contents seen =
     cond (nat_le 144 id && nat_le id 159) (Err (misread BadElement place))
     (cond (id == 161) (Ok (with_complete seen))

@@ -4,16 +4,16 @@ use Rattle.std.specs.Option.{option_map}
 use Rattle.refusals.specs.declared.Ground.TheVariants.{ElementPastEnd, BadReference}
 use Rattle.messages.specs.declared.kind.MessageType.TheVariants.{Setup, Disconnect}
 use Rattle.messages.specs.declared.record.Message.{Message}
-use Rattle.messages.specs.Elements.{Digits}
+use Rattle.messages.specs.Elements.{DigitsPart}
 use Rattle.messages.specs.Reading.{decoded, refuse, lacking}
-use Rattle.messages.specs.Writing.{encoded, fits}
+use Rattle.messages.specs.Writing.{encoded, is_writable}
 
 -- the digits stand last in what is written
 abbrev pub digits_place : Message (List ℕ) → List ℕ → ℕ
 digits_place m ds = length (encoded m) - length ds
 
 -- a message with its digits at their place in what is written
-abbrev pub as_read : Message (List ℕ) → Message Digits
+abbrev pub as_read : Message (List ℕ) → Message DigitsPart
 as_read m =
     record {
       reference = m.reference;
@@ -29,7 +29,7 @@ as_read m =
 
 -- every message that can be written reads back as the same record
 abbrev pub RoundTrip : Type 0
-RoundTrip = (m : Message (List ℕ)) → fits m ≡ true → lacking m.kind m.elements ≡ false → decoded (encoded m) ≡ Ok (as_read m)
+RoundTrip = (m : Message (List ℕ)) → is_writable m ≡ true → lacking m.kind m.elements ≡ false → decoded (encoded m) ≡ Ok (as_read m)
 
 -- SETUP of reference 5 on channel 7 for 417
 abbrev pub setup417 : Message (List ℕ)
@@ -46,7 +46,7 @@ setup417 =
       };
     }
 
-abbrev pub setup417_read : Message Digits
+abbrev pub setup417_read : Message DigitsPart
 setup417_read =
     record {
       reference = record { flag = false; number = 5 };

@@ -8,15 +8,15 @@ use Rattle.messages.specs.declared.record.Elements.{Elements}
 use Rattle.messages.specs.declared.record.Message.{Message}
 use Rattle.messages.specs.declared.record.Misread.{Misread}
 use Rattle.messages.specs.Types.{type_of, is_setup}
-use Rattle.messages.specs.Elements.{Digits, absent, bare, misread, noted}
+use Rattle.messages.specs.Elements.{DigitsPart, absent, bare, misread, noted}
 
 abbrev pub refuse : {B : Type 0} → Ground → ℕ → Result B Misread
 refuse why place = Err (misread why place)
 
 -- what follows a part that was read, or that part's refusal
-abbrev pub onward : {B C : Type 0} → Result B Misread → (B → Result C Misread) → Result C Misread
-onward (Ok x) next = next x
-onward (Err e) next = Err e
+abbrev pub and_then : {B C : Type 0} → Result B Misread → (B → Result C Misread) → Result C Misread
+and_then (Ok x) next = next x
+and_then (Err e) next = Err e
 
 -- the first five octets as values, and the octets behind them
 pub record Heading : Type 0 where
@@ -46,23 +46,23 @@ headed xs =
     (typed xs (type_of (slice_index xs 4)))))
 
 -- skip octets are passed over, and then an element begins at place: alone from 80 up, else with a length octet and contents
-abbrev pub gathered : ℕ → ℕ → List ℕ → Elements Digits → Result (Elements Digits) Misread
-gathered skip place [] seen = Ok seen
-gathered (suc k) place (x ∷ xs) seen = gathered k (place + 1) xs seen
-gathered zero place (x ∷ xs) seen =
-    cond (nat_le 128 x) (onward (noted x place [] seen) (λ more. gathered 0 (place + 1) xs more))
+abbrev pub elements_from : ℕ → ℕ → List ℕ → Elements DigitsPart → Result (Elements DigitsPart) Misread
+elements_from skip place [] seen = Ok seen
+elements_from (suc k) place (x ∷ xs) seen = elements_from k (place + 1) xs seen
+elements_from zero place (x ∷ xs) seen =
+    cond (nat_le 128 x) (and_then (noted x place [] seen) (λ more. elements_from 0 (place + 1) xs more))
     (cond (nat_lt (length xs) (slice_index xs 0 + 1)) (refuse ElementPastEnd place)
-    (onward (noted x place (take (slice_index xs 0) (drop 1 xs)) seen) (λ more. gathered (slice_index xs 0 + 1) (place + 1) xs more)))
+    (and_then (noted x place (take (slice_index xs 0) (drop 1 xs)) seen) (λ more. elements_from (slice_index xs 0 + 1) (place + 1) xs more)))
 
 -- a SETUP names a channel and a called number
 abbrev pub lacking : {D : Type 0} → MessageType → Elements D → Bool
 lacking kind e = is_setup kind && (absent e.channel || absent e.digits)
 
-abbrev pub whole : ℕ → Heading → Elements Digits → Result (Message Digits) Misread
+abbrev pub whole : ℕ → Heading → Elements DigitsPart → Result (Message DigitsPart) Misread
 whole size h e =
     cond (lacking h.kind e) (refuse IncompleteSetup size)
     (Ok (record { reference = h.reference; kind = h.kind; elements = e }))
 
 -- the message that the octets are
-abbrev pub decoded : List ℕ → Result (Message Digits) Misread
-decoded xs = onward (headed xs) (λ h. onward (gathered 0 5 h.elements bare) (λ e. whole (length xs) h e))
+abbrev pub decoded : List ℕ → Result (Message DigitsPart) Misread
+decoded xs = and_then (headed xs) (λ h. and_then (elements_from 0 5 h.elements bare) (λ e. whole (length xs) h e))

@@ -75,8 +75,8 @@ digits_fit None = true
 digits_fit (Some ds) = nat_le (length ds) 20 && all_digits ds
 
 -- every field is within its range
-abbrev pub fits : Message (List ℕ) → Bool
-fits m =
+abbrev pub is_writable : Message (List ℕ) → Bool
+is_writable m =
     reference_fits m.reference m.kind
     && (cause_fits m.elements.cause
     && (channel_fits m.elements.channel && (progress_fits m.elements.progress && digits_fit m.elements.digits)))
@@ -84,7 +84,7 @@ fits m =
 -- what writing into a buffer of so many octets answers: how many octets were written, or the first ground that holds
 abbrev pub writes : ℕ → Message (List ℕ) → Result ℕ Ground
 writes room m =
-    cond (not (fits m)) (Err FieldOutOfRange)
+    cond (not (is_writable m)) (Err FieldOutOfRange)
     (cond (lacking m.kind m.elements) (Err IncompleteSetup)
     (cond (nat_lt room (length (encoded m))) (Err BufferTooShort) (Ok (length (encoded m)))))
 

@@ -4,21 +4,21 @@ use mathlib.Core.Path.{transport}
 use lib.Seq.{take-set-lt}
 use Rattle.std.proofs.lemmas.List.{drop-set-add, take-set-le, set-append_left, set-append_right, drop-set-lt, take_more_set, drop_more, take-append-le, take_all, drop_all, length_push}
 use Rattle.std.proofs.lemmas.Bool.{cond-true, cond-false, ltb-true, ltb-false, eqb-true}
-use Rattle.queues.specs.Ring.{ring, gathered, in_ring, behind, onward}
+use Rattle.queues.specs.Ring.{ring, messages_in, in_ring, behind, place_after}
 
 module _ {M : Type 0} where
   same_length : (xs ys : List (Option M)) (i : ℕ) (v : Option M) → ys ≡ set xs i v → length ys ≡ length xs
   same_length xs ys i v e = ap length e ∙ simp length-set
 
-  gathered_push : (l : List (Option M)) (m : M) → gathered (l ++ Some m ∷ []) ≡ gathered l ++ m ∷ []
-  gathered_push [] m = refl
-  gathered_push (None ∷ l) m = gathered_push l m
-  gathered_push (Some x ∷ l) m = ap (λ r. x ∷ r) (gathered_push l m)
+  messages_in-push : (l : List (Option M)) (m : M) → messages_in (l ++ Some m ∷ []) ≡ messages_in l ++ m ∷ []
+  messages_in-push [] m = refl
+  messages_in-push (None ∷ l) m = messages_in-push l m
+  messages_in-push (Some x ∷ l) m = ap (λ r. x ∷ r) (messages_in-push l m)
 
-  gathered_le : (l : List (Option M)) → length (gathered l) ≤ length l
-  gathered_le [] = omega arith
-  gathered_le (None ∷ l) = omega (arith, gathered_le l)
-  gathered_le (Some x ∷ l) = omega (arith, gathered_le l)
+  messages_in_le : (l : List (Option M)) → length (messages_in l) ≤ length l
+  messages_in_le [] = omega arith
+  messages_in_le (None ∷ l) = omega (arith, messages_in_le l)
+  messages_in_le (Some x ∷ l) = omega (arith, messages_in_le l)
 
   ring_length : (xs : List (Option M)) (f : ℕ) → f ≤ length xs → length (ring xs f) ≡ length xs
   unfolding ring
@@ -52,7 +52,7 @@ module _ {M : Type 0} where
   put_last xs f n m hf h =
       let long = ring_length xs f hf in
       let lt : n < length (ring xs f) = omega arith in
-      ap (λ l. gathered (take (n + 1) l)) (filled xs f n (Some m) hf h) ∙ ap gathered (take_more_set (ring xs f) n (Some m) lt) ∙ gathered_push (take n (ring xs f)) m
+      ap (λ l. messages_in (take (n + 1) l)) (filled xs f n (Some m) hf h) ∙ ap messages_in (take_more_set (ring xs f) n (Some m) lt) ∙ messages_in-push (take n (ring xs f)) m
 
   -- a message in the place behind the used ones waits last
   pub waits_last : (xs ys : List (Option M)) (f n count at : ℕ) (m : M) → f ≤ length xs → n < length xs → count ≡ length xs → at ≡ behind f n count → ys ≡ set xs at (Some m) → in_ring ys f (n + 1) ≡ in_ring xs f n ++ m ∷ []
@@ -89,13 +89,13 @@ module _ {M : Type 0} where
       let le : length xs ≤ n = omega arith in
       (λ i. drop_all n xs le i ++ take_all n xs le i) ∙ sym (append-nil xs)
 
-  emptied : (xs : List (Option M)) (f : ℕ) → f < length xs → ring (set xs f None) (onward f (length xs)) ≡ rest xs f ++ None ∷ []
+  emptied : (xs : List (Option M)) (f : ℕ) → f < length xs → ring (set xs f None) (place_after f (length xs)) ≡ rest xs f ++ None ∷ []
   emptied xs f h = by_end (eqb (f + 1) (length xs)) refl
     where
       from : ℕ → Type 0
       from i = ring (set xs f None) i ≡ rest xs f ++ None ∷ []
 
-      by_end : (b : Bool) → eqb (f + 1) (length xs) ≡ b → from (onward f (length xs))
+      by_end : (b : Bool) → eqb (f + 1) (length xs) ≡ b → from (place_after f (length xs))
       by_end true e =
           let last : length (set xs f None) ≡ f + 1 = simp length-set (sym (eqb-true _ _ e)) in
           subst from (sym (cond-true _ _ _ e)) (sym (ring_around (set xs f None) (f + 1) last) ∙ ring_next xs f h)
@@ -106,11 +106,11 @@ module _ {M : Type 0} where
   take_cons x l (suc k) h = let e : k ≡ suc k - 1 = omega arith in ap (λ j. x ∷ take j l) e
 
   -- where each of the used places holds a message, so does the first
-  first_holds : (x : Option M) (l : List (Option M)) (used waiting : List M) → used ≡ gathered (x ∷ l) → waiting ≡ gathered l → length l < length used → MatchOption x ⊥ (λ m. used ≡ m ∷ waiting)
-  first_holds None l used waiting e w h = omega (arith, ap length e, gathered_le l)
+  first_holds : (x : Option M) (l : List (Option M)) (used waiting : List M) → used ≡ messages_in (x ∷ l) → waiting ≡ messages_in l → length l < length used → MatchOption x ⊥ (λ m. used ≡ m ∷ waiting)
+  first_holds None l used waiting e w h = omega (arith, ap length e, messages_in_le l)
   first_holds (Some m) l used waiting e w h = e ∙ ap (λ r. m ∷ r) (sym w)
 
-  take_first : (xs : List (Option M)) (f n : ℕ) → f < length xs → 0 < n → n ≤ length xs → length (in_ring xs f n) ≡ n → MatchOption (get_or xs f None) ⊥ (λ m. in_ring xs f n ≡ m ∷ in_ring (set xs f None) (onward f (length xs)) (n - 1))
+  take_first : (xs : List (Option M)) (f n : ℕ) → f < length xs → 0 < n → n ≤ length xs → length (in_ring xs f n) ≡ n → MatchOption (get_or xs f None) ⊥ (λ m. in_ring xs f n ≡ m ∷ in_ring (set xs f None) (place_after f (length xs)) (n - 1))
   take_first xs f n h p k counted =
       let x = get_or xs f None in
       let later = take (n - 1) (rest xs f) in
@@ -118,13 +118,13 @@ module _ {M : Type 0} where
       let le : n - 1 ≤ length (rest xs f) = omega arith in
       let few : length later ≡ n - 1 = simp length-take (omega arith) in
       let before : take n (ring xs f) ≡ x ∷ later = ap (take n) (ring_first xs f h) ∙ take_cons x (rest xs f) n p in
-      let after : take (n - 1) (ring (set xs f None) (onward f (length xs))) ≡ later = ap (take (n - 1)) (emptied xs f h) ∙ take-append-le (n - 1) (rest xs f) (None ∷ []) le in
-      first_holds x later _ _ (ap gathered before) (ap gathered after) (omega arith)
+      let after : take (n - 1) (ring (set xs f None) (place_after f (length xs))) ≡ later = ap (take (n - 1)) (emptied xs f h) ∙ take-append-le (n - 1) (rest xs f) (None ∷ []) le in
+      first_holds x later _ _ (ap messages_in before) (ap messages_in after) (omega arith)
 
   -- emptying the first used place takes the oldest message out
-  pub oldest_leaves : (xs ys : List (Option M)) (f n count next : ℕ) (r : Option M) → f < length xs → 0 < n → n ≤ length xs → length (in_ring xs f n) ≡ n → r ≡ get_or xs f None → ys ≡ set xs f None → count ≡ length ys → next ≡ onward f count → MatchOption r ⊥ (λ m. in_ring xs f n ≡ m ∷ in_ring ys next (n - 1))
+  pub oldest_leaves : (xs ys : List (Option M)) (f n count next : ℕ) (r : Option M) → f < length xs → 0 < n → n ≤ length xs → length (in_ring xs f n) ≡ n → r ≡ get_or xs f None → ys ≡ set xs f None → count ≡ length ys → next ≡ place_after f count → MatchOption r ⊥ (λ m. in_ring xs f n ≡ m ∷ in_ring ys next (n - 1))
   oldest_leaves xs ys f n count next r h p k counted value after c step =
-      let to = sym (step ∙ ap (onward f) (c ∙ same_length xs ys f None after)) in
+      let to = sym (step ∙ ap (place_after f) (c ∙ same_length xs ys f None after)) in
       transport (λ i. MatchOption (sym value i) ⊥ (λ m. in_ring xs f n ≡ m ∷ in_ring (sym after i) (to i) (n - 1))) (take_first xs f n h p k counted)
 
   one_fewer : (r : Option M) (before after : List M) (n : ℕ) → MatchOption r ⊥ (λ m. before ≡ m ∷ after) → length before ≡ n → length after ≡ n - 1
@@ -132,6 +132,6 @@ module _ {M : Type 0} where
   one_fewer (Some m) before after n h e = let more = ap length h in omega arith
 
   -- one message fewer waits
-  pub one_shorter : (xs ys : List (Option M)) (f n count next : ℕ) (r : Option M) → f < length xs → 0 < n → n ≤ length xs → length (in_ring xs f n) ≡ n → r ≡ get_or xs f None → ys ≡ set xs f None → count ≡ length ys → next ≡ onward f count → length (in_ring ys next (n - 1)) ≡ n - 1
+  pub one_shorter : (xs ys : List (Option M)) (f n count next : ℕ) (r : Option M) → f < length xs → 0 < n → n ≤ length xs → length (in_ring xs f n) ≡ n → r ≡ get_or xs f None → ys ≡ set xs f None → count ≡ length ys → next ≡ place_after f count → length (in_ring ys next (n - 1)) ≡ n - 1
   one_shorter xs ys f n count next r h p k counted value after c step =
       one_fewer r _ _ n (oldest_leaves xs ys f n count next r h p k counted value after c step) counted

@@ -6,19 +6,19 @@ unfoldable pub ring : {M : Type 0} → List (Option M) → ℕ → List (Option 
 ring places first = drop first places ++ take first places
 
 -- the messages in places, in their order
-abbrev pub gathered : {M : Type 0} → List (Option M) → List M
-gathered [] = []
-gathered (None ∷ rest) = gathered rest
-gathered (Some m ∷ rest) = m ∷ gathered rest
+abbrev pub messages_in : {M : Type 0} → List (Option M) → List M
+messages_in [] = []
+messages_in (None ∷ rest) = messages_in rest
+messages_in (Some m ∷ rest) = m ∷ messages_in rest
 
 -- the messages in `len` places from `first` on, the oldest first
 abbrev pub in_ring : {M : Type 0} → List (Option M) → ℕ → ℕ → List M
-in_ring places first len = gathered (take len (ring places first))
+in_ring places first len = messages_in (take len (ring places first))
 
 -- the place behind `len` used ones from `first` on, of `count` places
 abbrev pub behind : ℕ → ℕ → ℕ → ℕ
 behind first len count = cond (nat_lt len (count - first)) (first + len) (len - (count - first))
 
 -- the place after `at`, of `count` places
-abbrev pub onward : ℕ → ℕ → ℕ
-onward at count = cond (at + 1 == count) 0 (at + 1)
+abbrev pub place_after : ℕ → ℕ → ℕ
+place_after at count = cond (at + 1 == count) 0 (at + 1)

@@ -1,6 +1,6 @@
 // What one step lets wait in one queue.
 ghost use Rattle.std.specs.Prelude.{◌≡◌, length};
-ghost use Rattle.queues.specs.Few.{listed};
+ghost use Rattle.queues.specs.Few.{few_items};
 
 // At most two messages, in their order. Stays an enum of its own: it is `Copy` where its messages are, which no vector is.
 #[derive(Clone, Copy, PartialEq, Eq, Debug, Drop)]
@@ -13,7 +13,7 @@ pub enum Few<M> {
 impl<M> Few<M> {
     // How many messages there are.
     pub fn count(&self) -> usize
-        ensures number_of_messages { result ≡ length (listed self.now) }
+        ensures number_of_messages { result ≡ length (few_items self.now) }
     {
         match self {
             Few::Zero => 0,

@@ -6,8 +6,8 @@ use Rattle.refusals.specs.declared.Ground.TheVariants.{BadElement}
 use Rattle.messages.specs.declared.record.Elements.{Elements}
 use Rattle.messages.specs.declared.record.Misread.{Misread}
 use Rattle.messages.specs.declared.record.Part.{Part}
-use Rattle.messages.specs.Elements.{Digits, misread, noted}
-use Rattle.messages.specs.Reading.{gathered, onward}
+use Rattle.messages.specs.Elements.{DigitsPart, misread, noted}
+use Rattle.messages.specs.Reading.{elements_from, and_then}
 use Rattle.reader.specs.declared.element.Element.{Element}
 use Rattle.reader.specs.declared.element.Reader.{Reader}
 use Rattle.reader.specs.Seen.{seen_elements}
@@ -26,18 +26,18 @@ abbrev pub octets_left : Reader → List ℕ
 octets_left r = r.rest.now
 
 -- what a reader gathers with what was seen before
-abbrev pub gathered_by : Reader → Elements Digits → Result (Elements Digits) Misread
-gathered_by r s = gathered 0 r.place (octets_left r) s
+abbrev pub elements_left : Reader → Elements DigitsPart → Result (Elements DigitsPart) Misread
+elements_left r s = elements_from 0 r.place (octets_left r) s
 
 -- a reader gathers the element that it gives, and then what it gathers behind that
 abbrev pub GivesElement : Reader → Option (Result Element Misread) → Reader → Type 0
 GivesElement old None new = octets_left old ≡ []
-GivesElement old (Some (Err e)) new = (s : Elements Digits) → gathered_by old s ≡ Err e
+GivesElement old (Some (Err e)) new = (s : Elements DigitsPart) → elements_left old s ≡ Err e
 GivesElement old (Some (Ok x)) new =
-    (s : Elements Digits) → gathered_by old s ≡ onward (noted x.id x.place x.contents.now s) (λ more. gathered_by new more)
+    (s : Elements DigitsPart) → elements_left old s ≡ and_then (noted x.id x.place x.contents.now s) (λ more. elements_left new more)
 
 -- what the elements seen so far have become, as values
-abbrev pub seen_noted : Result (Elements Part) Misread → Result (Elements Digits) Misread
+abbrev pub seen_noted : Result (Elements Part) Misread → Result (Elements DigitsPart) Misread
 seen_noted (Ok e) = Ok (seen_elements e)
 seen_noted (Err e) = Err e
 

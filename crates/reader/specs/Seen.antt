@@ -5,7 +5,7 @@ use Rattle.messages.specs.declared.record.Elements.{Elements}
 use Rattle.messages.specs.declared.record.Message.{Message}
 use Rattle.messages.specs.declared.record.Misread.{Misread}
 use Rattle.messages.specs.declared.record.Part.{Part}
-use Rattle.messages.specs.Elements.{Digits}
+use Rattle.messages.specs.Elements.{DigitsPart}
 use Rattle.messages.specs.Reading.{Heading}
 use Rattle.reader.specs.declared.header.Header.{Header}
 
@@ -13,20 +13,20 @@ abbrev pub seen_header : Result Header Misread → Result Heading Misread
 seen_header (Ok h) = Ok (record { reference = h.reference; kind = h.kind; elements = h.elements.now })
 seen_header (Err e) = Err e
 
-abbrev pub seen_part : Part → Digits
+abbrev pub seen_part : Part → DigitsPart
 seen_part p = record { place = p.place; octets = p.octets.now }
 
-abbrev pub seen_digits : Option Part → Option Digits
+abbrev pub seen_digits : Option Part → Option DigitsPart
 seen_digits o = option_map seen_part o
 
-abbrev pub seen_elements : Elements Part → Elements Digits
+abbrev pub seen_elements : Elements Part → Elements DigitsPart
 seen_elements e =
     record { complete = e.complete; cause = e.cause; channel = e.channel; progress = e.progress; digits = seen_digits e.digits }
 
-abbrev pub seen_record : Message Part → Message Digits
+abbrev pub seen_record : Message Part → Message DigitsPart
 seen_record m = record { reference = m.reference; kind = m.kind; elements = seen_elements m.elements }
 
-abbrev pub seen_message : Result (Message Part) Misread → Result (Message Digits) Misread
+abbrev pub seen_message : Result (Message Part) Misread → Result (Message DigitsPart) Misread
 seen_message (Ok m) = Ok (seen_record m)
 seen_message (Err e) = Err e
 

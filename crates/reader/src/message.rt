@@ -1,6 +1,6 @@
 ghost use Rattle.std.specs.Prelude.{◌≡◌, IfOk};
 ghost use Rattle.messages.specs.Elements.{bare};
-ghost use Rattle.messages.specs.Reading.{gathered, decoded};
+ghost use Rattle.messages.specs.Reading.{elements_from, decoded};
 ghost use Rattle.reader.specs.Seen.{seen_message, PartOf};
 ghost use Rattle.reader.specs.Items.{seen_noted};
 
@@ -15,7 +15,7 @@ use refusals::Ground;
 const HEADER: usize = 5;
 
 fn read_elements(part: &[u8]) -> Result<Elements<Part<'_>>, Misread>
-    ensures gathered_from_the_left { seen_noted result ≡ gathered 0 5 part.now bare }
+    ensures gathered_from_the_left { seen_noted result ≡ elements_from 0 5 part.now bare }
 {
     // Stays a literal: after a call of `bare` the borrow checker does not cover the loop.
     let mut seen = Elements {

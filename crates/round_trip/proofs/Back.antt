@@ -5,9 +5,9 @@ use Rattle.refusals.specs.declared.Ground.{Ground}
 use Rattle.refusals.specs.declared.Ground.TheVariants.{FieldOutOfRange, IncompleteSetup, BufferTooShort}
 use Rattle.messages.specs.declared.record.Message.{Message}
 use Rattle.messages.specs.declared.record.Part.{Part}
-use Rattle.messages.specs.Elements.{Digits}
+use Rattle.messages.specs.Elements.{DigitsPart}
 use Rattle.messages.specs.Reading.{lacking}
-use Rattle.messages.specs.Writing.{encoded, fits, writes}
+use Rattle.messages.specs.Writing.{encoded, is_writable, writes}
 use Rattle.messages.specs.Written.{without_place}
 use Rattle.messages.specs.Laws.{as_read}
 use Rattle.reader.specs.Seen.{seen_digits, seen_record}
@@ -20,7 +20,7 @@ by_tests false true c n k h = let z : ◌≡◌ {A = ℕ} 0 1 = cc in absurd (om
 
 -- what was written lacks nothing
 pub written_whole : (room n : ℕ) (m : Message (List ℕ)) → Ok n ≡ writes room m → lacking m.kind m.elements ≡ false
-written_whole room n m h = by_tests (fits m) (lacking m.kind m.elements) (ltb room (length (encoded m))) n (length (encoded m)) h
+written_whole room n m h = by_tests (is_writable m) (lacking m.kind m.elements) (ltb room (length (encoded m))) n (length (encoded m)) h
 
 -- a message with these digits
 abbrev with_number : {B C : Type 0} → Message B → Option C → Message C
@@ -38,14 +38,14 @@ with_number m digits =
     }
 
 -- the digits of what was read, without their place
-abbrev unplaced : Message Digits → Message (List ℕ)
-unplaced m = with_number m (option_map (λ (d : Digits). d.octets) m.elements.digits)
+abbrev unplaced : Message DigitsPart → Message (List ℕ)
+unplaced m = with_number m (option_map (λ (d : DigitsPart). d.octets) m.elements.digits)
 
-digits_read : (o : Option Part) → values_of (option_map (λ p. p.octets) o) ≡ option_map (λ (d : Digits). d.octets) (seen_digits o)
+digits_read : (o : Option Part) → values_of (option_map (λ p. p.octets) o) ≡ option_map (λ (d : DigitsPart). d.octets) (seen_digits o)
 digits_read None = refl
 digits_read (Some p) = refl
 
-digits_back : (place : List ℕ → ℕ) (o : Option (List ℕ)) → option_map (λ (d : Digits). d.octets) (option_map (λ ds. record { place = place ds; octets = ds }) o) ≡ o
+digits_back : (place : List ℕ → ℕ) (o : Option (List ℕ)) → option_map (λ (d : DigitsPart). d.octets) (option_map (λ ds. record { place = place ds; octets = ds }) o) ≡ o
 digits_back place None = refl
 digits_back place (Some ds) = refl
 

@@ -71,10 +71,10 @@ abbrev same : Message (Bor (List ℕ)) → Message (Bor (List ℕ)) → Bool
 same x y = same_reference x.reference y.reference && (sameb the_type x.kind y.kind && same_elements x.elements y.elements)
 
 -- the elements, with their digits as a list
-abbrev listed : Elements (Bor (List ℕ)) → Elements (List ℕ)
-listed x = record { complete = x.complete; cause = x.cause; channel = x.channel; progress = x.progress; digits = values_of x.digits }
+abbrev with_values : Elements (Bor (List ℕ)) → Elements (List ℕ)
+with_values x = record { complete = x.complete; cause = x.cause; channel = x.channel; progress = x.progress; digits = values_of x.digits }
 
-elements_Decides : (x y : Elements (Bor (List ℕ))) → Decides (same_elements x y) (listed x ≡ listed y)
+elements_Decides : (x y : Elements (Bor (List ℕ))) → Decides (same_elements x y) (with_values x ≡ with_values y)
 elements_Decides x y =
     Decides-like _
     (λ h i. record { complete = h.0 i; cause = h.1.0 i; channel = h.1.1.0 i; progress = h.1.1.1.0 i; digits = h.1.1.1.1 i })

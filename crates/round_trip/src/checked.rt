@@ -1,7 +1,7 @@
 ghost use Rattle.std.specs.Prelude.{◌≡◌, ◌≤◌, true, false, length, IfOk, IsTrue, ◌↔◌};
 ghost use Rattle.messages.specs.Written.{without_place};
 ghost use Rattle.messages.specs.Laws.{RoundTrip, LayoutExamples};
-ghost use Rattle.messages.specs.Writing.{encoded, fits, writes, buffer_after};
+ghost use Rattle.messages.specs.Writing.{encoded, is_writable, writes, buffer_after};
 ghost use Rattle.messages.specs.Reading.{lacking};
 ghost use Rattle.writer.specs.Values.{values};
 
@@ -27,7 +27,7 @@ fn is_same(read: Message<Part<'_>>, message: Message<&[u8]>) -> bool
 /// Sees that the octets of a message read back as the same record; no answer is needed, since they do.
 fn see_same(octets: &[u8], message: Message<&[u8]>)
     requires octets_of_the_message { octets.now ≡ encoded (values message) }
-    requires in_range { fits (values message) ≡ true }
+    requires in_range { is_writable (values message) ≡ true }
     requires complete { lacking message.kind (values message).elements ≡ false }
 {
     match read(octets) {

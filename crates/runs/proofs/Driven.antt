@@ -3,7 +3,7 @@ use Rattle.std.proofs.Common.{◌≡◌, ℕ, ◌+◌, ◌<◌, List, [], ◌∷
 use Rattle.std.proofs.lemmas.List.{take_more, map-append}
 use Rattle.calls.specs.declared.answers.Answer.{Answer}
 use Rattle.calls.specs.Rules as rules
-use Rattle.calls.specs.Rules.{State, Stepped, Stepping, onward}
+use Rattle.calls.specs.Rules.{State, Stepped, Stepping, next_step}
 use Rattle.runs.specs.declared.event.Event.{Event}
 use Rattle.runs.specs.Events.{event_of}
 
@@ -13,7 +13,7 @@ events_more evs i e h is =
 
 pub driven_more : (entry st st' : State) (evs : List Event) (i : ℕ) (e : Event) (before after : List Answer) (a : Answer) → i < length evs → e ≡ get_or evs i e → after ≡ before ++ a ∷ [] → Stepping entry (map event_of (take i evs)) before st → Stepped st (event_of e) a st' → Stepping entry (map event_of (take (i + 1) evs)) after st'
 driven_more entry st st' evs i e before after a h is q r s =
-    subst₂ (λ (ms : List rules.Event) (ans : List Answer). Stepping entry ms ans st') (sym (events_more evs i e h is)) (sym q) (onward (event_of e) a r s)
+    subst₂ (λ (ms : List rules.Event) (ans : List Answer). Stepping entry ms ans st') (sym (events_more evs i e h is)) (sym q) (next_step (event_of e) a r s)
 
 -- the same step of the same event
 pub as_event : {st st' : State} {a : Answer} (e e' : rules.Event) → e ≡ e' → Stepped st e' a st' → Stepped st e a st'

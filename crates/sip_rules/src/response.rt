@@ -1,6 +1,6 @@
 //! Final responses to the INVITE of a call.
 ghost use Rattle.std.specs.Prelude.{◌≡◌, [], nat_le};
-ghost use Rattle.queues.specs.Few.{listed};
+ghost use Rattle.queues.specs.Few.{few_items};
 ghost use Rattle.calls.specs.Effects.{fails as failing, ack_and_bye, accepts as accepting, moved as moving, stays as staying, becomes as becoming, untold, Does};
 ghost use Rattle.calls.specs.Rules.{on_other};
 ghost use Rattle.effects.specs.Moves.{effect_of};
@@ -37,7 +37,7 @@ pub fn ack(response: Response) -> SipMessage
 
 /// A 200 that is not wanted is acknowledged and ended.
 pub fn ack_and_bye(response: Response) -> Few<SipMessage>
-    ensures acknowledged_and_ended { listed result ≡ ack_and_bye response.number response.dialogue }
+    ensures acknowledged_and_ended { few_items result ≡ ack_and_bye response.number response.dialogue }
 {
     let bye = SipMessage::Bye {
         dialogue: response.dialogue,
@@ -62,7 +62,7 @@ fn connects(call: Call, response: Response) -> Effect
 
 /// A 200 that changes the SIP side to this, or leaves it so.
 fn acknowledges(call: Call, side: SipSide, sent: Few<SipMessage>) -> Effect
-    ensures exchange_side_untouched { effect_of result ≡ moving call (staying call []) (becoming side (listed sent)) }
+    ensures exchange_side_untouched { effect_of result ≡ moving call (staying call []) (becoming side (few_items sent)) }
 {
     moved(call, stays(call, Few::Zero), becomes(side, sent))
 }

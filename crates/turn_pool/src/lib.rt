@@ -13,7 +13,7 @@ ghost use Rattle.turn_pool.specs.Listing.{Fits};
 ghost use Rattle.turn_pool.specs.Turns.{idle_order, seized_ones, states};
 ghost use Rattle.std.proofs.Common.{rules, arith};
 
-use crate::listing::fits;
+use crate::listing::is_turn_list;
 use crate::moves::move_channel;
 use arrayvec::ArrayVec;
 use pools::Pool;
@@ -26,9 +26,9 @@ impl TurnPool {
         ensures granted_exactly_if_the_list_fits { MatchResult result (λ _. Fits list.now) (λ e. (Fits list.now → ⊥) × (e ≡ SettingOutOfRange)) }
         ensures begins_idle_in_list_order { IfOk result (λ p. (idle_order p ≡ list.now) × (seized_ones p ≡ [])) }
     {
-        if fits(list) {
+        if is_turn_list(list) {
             Ok(TurnPool {
-                // There is room: a list that fits has at most 64 channels.
+                // There is room: a list that passes has at most 64 channels.
                 idle: ArrayVec::try_from(list).unwrap(),
                 seized: ArrayVec::new(),
             })

@@ -33,7 +33,7 @@ fn are_different(list: &[u8]) -> bool
 }
 
 /// Is this a list of 1 to 64 different channel numbers?
-pub(crate) fn fits(list: &[u8]) -> bool
+pub(crate) fn is_turn_list(list: &[u8]) -> bool
     ensures exactly_where_it_fits { MatchBool result (Fits list.now) (Fits list.now → ⊥) }
 {
     is_channel_count(list.len()) && are_different(list)

@@ -1,5 +1,5 @@
 ghost use Rattle.std.specs.Prelude.{◌≡◌, ◌≤◌, true, ◌++◌, length, drop, IfOk};
-ghost use Rattle.messages.specs.Writing.{encoded, fits, writes, buffer_after};
+ghost use Rattle.messages.specs.Writing.{encoded, is_writable, writes, buffer_after};
 ghost use Rattle.writer.specs.Values.{values, sizes};
 
 use crate::parts::{
@@ -12,7 +12,7 @@ use refusals::Ground;
 
 /// Writes a message that is known to fit: each element is lent the buffer behind the octets already written.
 fn put_message(buffer: &mut [u8], message: Message<&[u8]>) -> usize
-    requires in_range { fits (values message) ≡ true }
+    requires in_range { is_writable (values message) ≡ true }
     requires room { sizes (values message) ≤ length buffer.old }
     ensures after { buffer.new ≡ encoded (values message.entry) ++ drop result buffer.old }
     ensures size { result ≡ length (encoded (values message.entry)) }

@@ -1,6 +1,6 @@
 //! Whether the fields of a message are within the ranges that the layout can carry.
 ghost use Rattle.std.specs.Prelude.{◌≡◌};
-ghost use Rattle.messages.specs.Writing.{reference_fits, fits};
+ghost use Rattle.messages.specs.Writing.{reference_fits, is_writable};
 ghost use Rattle.writer.specs.Values.{values};
 
 use messages::{CallReference, Message, MessageType, all_digits};
@@ -16,7 +16,7 @@ fn reference_fits(reference: CallReference, kind: MessageType) -> bool
 
 /// Whether each field of the message can be written.
 pub fn all_fit(message: Message<&[u8]>) -> bool
-    ensures every_field_in_range { result ≡ fits (values message.entry) }
+    ensures every_field_in_range { result ≡ is_writable (values message.entry) }
 {
     let elements = message.elements;
     reference_fits(message.reference, message.kind)

@@ -1,6 +1,6 @@
 // What a queue does, by the list of the messages that wait.
 ghost use Rattle.std.specs.Prelude.{◌≡◌, ◌<◌, ◌≤◌, [], ◌∷◌, ◌++◌, length, MatchOption, MatchResult, nat_le};
-ghost use Rattle.queues.specs.Few.{listed};
+ghost use Rattle.queues.specs.Few.{few_items};
 ghost use Rattle.queues.specs.Waiting.{waiting, room, free, Accepted, HandedBack, OldestLeft, NothingTaken};
 
 use super::places::{place_after, place_behind};
@@ -66,9 +66,9 @@ impl<'a, M: Drop> Queue<'a, M> {
 
     // Lets a few messages wait behind the others, in their order. It has a `requires` as `add` has, and for the same reason.
     pub fn add_few(&mut self, few: Few<M>)
-        requires { length (listed few) ≤ free self.old }
+        requires { length (few_items few) ≤ free self.old }
         ensures room_stays { room self.new ≡ room self.old }
-        ensures wait_last { waiting self.new ≡ waiting self.old ++ listed few }
+        ensures wait_last { waiting self.new ≡ waiting self.old ++ few_items few }
     {
         match few {
             Few::Zero => {}

@@ -1,7 +1,7 @@
 use Rattle.std.proofs.Common.{ℕ, List, Some, None, Option, sym, ap, ◌∙◌}
 use Rattle.messages.specs.declared.record.Part.{Part}
 use Rattle.messages.specs.Elements.{bare}
-use Rattle.messages.specs.Reading.{gathered}
+use Rattle.messages.specs.Reading.{elements_from}
 use Rattle.messages.proofs.Places.{Inside, read_inside}
 use Rattle.reader.specs.Seen.{PartOf, seen_digits, seen_elements}
 use Rattle.reader.proofs.message.read.Goals as goal
@@ -14,5 +14,5 @@ pub returns-clause-digits_are_that_part : goal.returns-clause-digits_are_that_pa
 returns-clause-digits_are_that_part c =
     let rest = c.in_ok-header.ensures.the_rest in
     let all = c.in_ok-elements.ensures.gathered_from_the_left in
-    let read = sym (all ∙ ap (λ xs. gathered 0 5 xs bare) rest) in
+    let read = sym (all ∙ ap (λ xs. elements_from 0 5 xs bare) rest) in
     handed_out c.args.octets.now _ (read_inside c.args.octets.now (seen_elements c.in_ok-elements.elements) read)

@@ -1,7 +1,7 @@
 use Rattle.std.proofs.Common.{List, [], map, vec_items, sym, subst, arith}
 use Rattle.std.proofs.lemmas.List.{take_all}
 use Rattle.calls.specs.declared.answers.Answer.{Answer}
-use Rattle.calls.specs.Rules.{Stepping, standing}
+use Rattle.calls.specs.Rules.{Stepping, no_step}
 use Rattle.calls.proofs.Histories.{runs_compose}
 use Rattle.gateway.specs.Stands.{state_of}
 use Rattle.runs.specs.declared.event.Event.{Event}
@@ -12,7 +12,7 @@ use Rattle.runs.proofs.drive.run_each.Goals as goal
 pub loop-event-init : goal.loop-event-init
 loop-event-init g c =
     let st = state_of g.P.Pool.state c.args.gateway.now c.args.queues.now in
-    (omega arith, subst (λ (ans : List Answer). Stepping st [] ans st) (sym c.requires.none_noted_yet) standing)
+    (omega arith, subst (λ (ans : List Answer). Stepping st [] ans st) (sym c.requires.none_noted_yet) no_step)
 
 pub loop-event-preserved : goal.loop-event-preserved
 loop-event-preserved g c =

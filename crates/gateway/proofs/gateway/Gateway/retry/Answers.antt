@@ -3,7 +3,7 @@ use Rattle.calls.specs.Effects.{Effect, tries_again}
 use Rattle.calls.specs.Rules.{Choice, Fair, Move}
 use Rattle.calls.proofs.Choices.{fair_place}
 use Rattle.calls.proofs.Dids.{did, moved}
-use Rattle.call_table.specs.Tokens.{channel_of}
+use Rattle.call_table.specs.Tokens.{token_channel}
 use Rattle.effects.specs.Moves.{effect_of}
 use Rattle.gateway.specs.Stands.{state_of, Ready}
 use Rattle.gateway.proofs.Seizures.{ready_again, again_seizes}
@@ -14,7 +14,7 @@ apply-requires g c =
     let st = state_of g.P.Pool.state c.args.self.now c.args.queues.now in
     let f = c.args.found in
     let token = c.seize_any-token.result in
-    let same = c.tries_again-effect.ensures.another_channel_or_none ∙ ap (λ (x : Option ℕ). tries_again x f.call) c.channel_of.ensures.answers_its_channel in
+    let same = c.tries_again-effect.ensures.another_channel_or_none ∙ ap (λ (x : Option ℕ). tries_again x f.call) c.token_channel.ensures.answers_its_channel in
     let ready = ready_again st c.args.self.now.table.whole c.args.self.now.sound f.place f.call c.requires.found.0 c.requires.found.1 c.requires.waits token c.seize_any-token.ensures.granted_exactly_if_one_is_idle in
     record { ready = subst (λ (e : Effect). Ready st.table f.place e.after e.released token) (sym same) ready; roomy = c.requires.roomy }
 
@@ -22,10 +22,10 @@ pub returns : goal.returns
 returns g c =
     let st = state_of g.P.Pool.state c.args.self.now c.args.queues.now in
     let f = c.args.found in
-    let pick = channel_of c.seize_any-token.result in
+    let pick = token_channel c.seize_any-token.result in
     let place = fair_place st.table in
     let ch : Choice = record { pick = pick; place = place.0 } in
     let fair : Fair st ch = record { pick = c.seize_any-token.ensures.granted_exactly_if_one_is_idle; place = place.1 } in
-    let same = c.tries_again-effect.ensures.another_channel_or_none ∙ ap (λ (x : Option ℕ). tries_again x f.call) c.channel_of.ensures.answers_its_channel in
+    let same = c.tries_again-effect.ensures.another_channel_or_none ∙ ap (λ (x : Option ℕ). tries_again x f.call) c.token_channel.ensures.answers_its_channel in
     let m = moved st f.place (effect_of c.tries_again-effect.result) (tries_again pick f.call) pick (g.P.Pool.state c.seize_any-token.new.self.pool) c.seize_any-token.ensures.grant_seizes_it_alone same (again_seizes pick f.call) c.apply.ensures.report_of_the_effect c.apply.ensures.effect_settled in
     record { another_channel_or_none = did st (λ ch. Move f.place (tries_again ch.pick f.call)) ch fair (Move f.place (tries_again pick f.call)) refl m.0 m.1 }

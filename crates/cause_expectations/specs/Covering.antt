@@ -8,8 +8,8 @@ abbrev pub place_fits : Option ℕ → ℕ → Bool
 place_fits None location = true
 place_fits (Some at) location = at == location
 
-abbrev pub cause_fits : CauseEntry → ℕ → ℕ → Bool
-cause_fits entry cause location = nat_le entry.first cause && (nat_le cause entry.last && place_fits entry.location location)
+abbrev pub cause_covers : CauseEntry → ℕ → ℕ → Bool
+cause_covers entry cause location = nat_le entry.first cause && (nat_le cause entry.last && place_fits entry.location location)
 
-abbrev pub status_fits : StatusEntry → ℕ → Bool
-status_fits entry status = nat_le entry.first status && nat_le status entry.last
+abbrev pub status_covers : StatusEntry → ℕ → Bool
+status_covers entry status = nat_le entry.first status && nat_le status entry.last
