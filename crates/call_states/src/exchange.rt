@@ -1,6 +1,6 @@
 //! The side of the exchange.
 ghost use Rattle.std.specs.Prelude.{◌≡◌};
-ghost use Rattle.calls.specs.Words.{is_over, is_uncleared, is_unreleased, timer_of, is_running, sent_cause, is_repeated};
+ghost use Rattle.calls.specs.Sides.{is_over, is_uncleared, is_unreleased, timer_of, is_running, sent_cause, is_repeated};
 
 use calls::{ExchangeSide, Timer};
 use messages::Cause;

@@ -1,6 +1,6 @@
 //! The side of SIP, and the call as a whole.
 ghost use Rattle.std.specs.Prelude.{◌≡◌};
-ghost use Rattle.calls.specs.Words.{is_no_sip, awaits_response, is_unanswered, is_held_by, is_gone};
+ghost use Rattle.calls.specs.Sides.{is_no_sip, awaits_response, is_unanswered, is_held_by, is_gone};
 
 use crate::exchange::is_over;
 use calls::{Call, SipSide};

@@ -1,7 +1,7 @@
 -- The ways of looking for a call, and what is found.
 use Rattle.std.specs.Prelude.{◌≡◌, ◌<◌, Bool, List, Some, None, Option, slice_index_or}
 use Rattle.calls.specs.declared.record.Call.{Call}
-use Rattle.calls.specs.Words.{holds_dialogue}
+use Rattle.calls.specs.Sides.{holds_dialogue}
 use Rattle.calls.specs.Rules.{by_reference, by_transaction, by_number, by_live_number, by_awaited_number}
 use Rattle.calls.specs.Rules as rules
 use Rattle.call_table.specs.declared.key.Key.{Key}

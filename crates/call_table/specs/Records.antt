@@ -1,7 +1,7 @@
 -- The 64 places of the table of calls: the channels that they hold, and how tokens go in and out.
 use Rattle.std.specs.Prelude.{◌≡◌, ℕ, Bool, true, false, cond, not, ◌&&◌, List, is_some, Some, None, Ok, Err, Option, Result, ◌==◌, nat_lt, slice_index_or, slice_set}
 use Rattle.calls.specs.declared.record.Call.{Call}
-use Rattle.calls.specs.Words.{is_over}
+use Rattle.calls.specs.Sides.{is_over}
 use Rattle.call_table.specs.Tokens.{token_of}
 use Rattle.call_table.specs.declared.token.Token.{Token}
 

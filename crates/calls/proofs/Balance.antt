@@ -6,11 +6,10 @@ use Rattle.calls.specs.declared.record.Digits.{Digits}
 use Rattle.calls.specs.declared.sides.SipSide.{SipSide}
 use Rattle.std.proofs.lemmas.Bool.{cond_both}
 use Rattle.pools.specs.States.{States, idle}
-use Rattle.calls.specs.Words.{is_over, sip_stage, is_gone, holds, owes, owes_from, on_call, named, connects_in, finals_in, bye_in}
+use Rattle.calls.specs.Sides.{is_over, sip_stage, is_gone, holds, owes, owes_from, on_call, named, connects_in, finals_in, bye_in}
 use Rattle.calls.specs.Standing.{sides_agree, SoundAt}
 use Rattle.calls.specs.Effects.{ExchangeMove, SipMove, Effect, unless_gone, moved_call, redialled}
-use Rattle.calls.specs.Rules.{Event, Exchange, Invite, Cancel, Bye, Response, Expiry, CancelExpiry, TakeExchange, TakeSip}
-use Rattle.calls.specs.Laws.{inviting, brings, comes, parts, sends}
+use Rattle.calls.specs.Laws.{Brought, AnInvite, setup_count, invite_count, is_ok_on, is_bye_on, sends}
 use Rattle.calls.proofs.Moves.{ExchangeLaw, SipLaw, Linked, talks, may_connect_from}
 
 abbrev pub may_connect : ℕ → Call → ℕ
@@ -29,25 +28,18 @@ PresentAt None = Unit {0}
 PresentAt (Some k) = is_gone k ≡ false
 
 -- the last INVITE is the one that came just now
-abbrev pub Asked : (ℕ → Option ℕ) → Event → Type 0
-Asked last (Exchange xs) = Unit {0}
-Asked last (Invite t d xs) = last t ≡ Some d
-Asked last (Cancel t) = Unit {0}
-Asked last (Bye d) = Unit {0}
-Asked last (Response n s d media) = Unit {0}
-Asked last (Expiry x r) = Unit {0}
-Asked last (CancelExpiry n) = Unit {0}
-Asked last TakeExchange = Unit {0}
-Asked last TakeSip = Unit {0}
+abbrev pub Asked : (ℕ → Option ℕ) → Brought → Type 0
+Asked last (AnInvite t d) = last t ≡ Some d
+Asked last _ = Unit {0}
 
 -- what an event and its effect keep in balance at one place
-pub record Balanced (pool : States) (old : Option Call) (ev : Event) (e : Effect) : Type 0 where
+pub record Balanced (pool : States) (old : Option Call) (ev : Brought) (e : Effect) : Type 0 where
   pub channels : (c : ℕ) → named c e.seized + on_call (holds c) old ≡ named c e.released + on_call (holds c) e.after
   pub idle : (c : ℕ) → named c e.seized ≡ 1 → idle (pool c) ≡ true
-  pub invites : (t : ℕ) → inviting t ev + on_call (owes t) old ≡ finals_in t e.sip + on_call (owes t) e.after
-  pub connects : (r : ℕ) → connects_in r e.exchange + on_call (may_connect r) e.after ≤ brings r ev + on_call (may_connect r) old
-  pub talking : (d : ℕ) → bye_in d e.sip ≡ false → parts d ev ≡ false → on_call (talks_call d) old ≤ on_call (talks_call d) e.after
-  pub opening : (d : ℕ) → comes d ev ≡ true → bye_in d e.sip ≡ false → on_call (talks_call d) e.after ≡ 1
+  pub invites : (t : ℕ) → invite_count t ev + on_call (owes t) old ≡ finals_in t e.sip + on_call (owes t) e.after
+  pub connects : (r : ℕ) → connects_in r e.exchange + on_call (may_connect r) e.after ≤ setup_count r ev + on_call (may_connect r) old
+  pub talking : (d : ℕ) → bye_in d e.sip ≡ false → is_bye_on d ev ≡ false → on_call (talks_call d) old ≤ on_call (talks_call d) e.after
+  pub opening : (d : ℕ) → is_ok_on d ev ≡ true → bye_in d e.sip ≡ false → on_call (talks_call d) e.after ≡ 1
   pub sending : (last : ℕ → Option ℕ) (d : ℕ) → LinkedAt last old → sends d last e.sip ≡ true → on_call (talks_call d) e.after ≡ 1
   pub linked : (last : ℕ → Option ℕ) → Asked last ev → LinkedAt last old → LinkedAt last e.after
   pub sound : SoundAt e.after
@@ -78,10 +70,10 @@ owes_off t g e = grind (arith, nat_tests)
 talks_off : (d : ℕ) (g : SipSide) → sip_stage g ≡ 0 → talks d g ≡ 0
 talks_off d g e = grind (arith, nat_tests)
 
-abbrev pub Uninvited : Event → Type 0
-Uninvited ev = (t : ℕ) → inviting t ev ≡ 0
+abbrev pub Uninvited : Brought → Type 0
+Uninvited ev = (t : ℕ) → invite_count t ev ≡ 0
 
-pub moved_balanced : (pool : States) (ev : Event) → Uninvited ev → (k : Call) (ds : Digits) (a : ExchangeMove) (b : SipMove) → ExchangeLaw k a → SipLaw ev k.sip b → ((c : ℕ) → named c a.seized ≡ 1 → idle (pool c) ≡ true) → sides_agree a.side b.side ≡ true → Balanced pool (Some k) ev (redialled k ds a b)
+pub moved_balanced : (pool : States) (ev : Brought) → Uninvited ev → (k : Call) (ds : Digits) (a : ExchangeMove) (b : SipMove) → ExchangeLaw k a → SipLaw ev k.sip b → ((c : ℕ) → named c a.seized ≡ 1 → idle (pool c) ≡ true) → sides_agree a.side b.side ≡ true → Balanced pool (Some k) ev (redialled k ds a b)
 moved_balanced pool ev u k ds a b la lb i s =
     let z = moved_call k ds a b in
     record {

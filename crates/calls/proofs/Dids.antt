@@ -7,7 +7,7 @@ use Rattle.calls.specs.declared.answers.Answer.{Answer}
 use Rattle.calls.specs.declared.answers.Refused.{Refused}
 use Rattle.calls.specs.declared.answers.Report.{Report}
 use Rattle.calls.specs.Effects.{Effect}
-use Rattle.calls.specs.Rules.{State, Choice, Fair, Outcome, Refuse, Move, refuse, Did, is_roomy, roomed, answer_of, applied, reported, freed, following, settled, first}
+use Rattle.calls.specs.Rules.{State, Choice, Fair, Outcome, Refuse, Change, refuse, Did, is_roomy, roomed, answer_of, applied, reported, freed, following, settled, first}
 use Rattle.calls.proofs.Choices.{Bounded, fair_choice}
 
 module _ (st : State) where
@@ -28,12 +28,11 @@ module _ (st : State) where
 
   -- the state with another pool
   abbrev pub with_pool : States → State
-  with_pool p =
-      record { table = st.table; pool = p; exchange = st.exchange; sip = st.sip; exchange_places = st.exchange_places; sip_places = st.sip_places; next = st.next; full = st.full }
+  with_pool p = record st { pool = p }
 
   -- an effect after its seizure
-  pub seized_move : (p : States) (i : ℕ) (e : Effect) (o : Option ℕ) → ((k : ℕ) → p k ≡ after_any o st.pool k) → e.seized ≡ o → settled (with_pool p) i e ≡ applied st (Move i e)
-  seized_move p i e o h q =
+  pub seized_change : (p : States) (i : ℕ) (e : Effect) (o : Option ℕ) → ((k : ℕ) → p k ≡ after_any o st.pool k) → e.seized ≡ o → settled (with_pool p) i e ≡ applied st (Change i e)
+  seized_change p i e o h q =
       λ j. record {
         table = set st.table i e.after;
         pool = freed e.released (λ k. (h k ∙ ap (λ (x : Option ℕ). after_any x st.pool k) (sym q)) j);
@@ -46,8 +45,8 @@ module _ (st : State) where
       }
 
   -- a move, as the code makes it: the channel is seized, then the effect settled
-  pub moved : (i : ℕ) (e e' : Effect) (o : Option ℕ) (p : States) {r : Report} {st' : State} → ((k : ℕ) → p k ≡ after_any o st.pool k) → e ≡ e' → e'.seized ≡ o → r ≡ reported e → st' ≡ settled (with_pool p) i e → (Answer.Step (Ok r) ≡ answer_of st (Move i e')) × (st' ≡ applied st (Move i e'))
-  moved i e e' o p h q s a b = (ap (λ (x : Report). Answer.Step (Ok x)) (a ∙ ap reported q), b ∙ ap (settled (with_pool p) i) q ∙ seized_move p i e' o h s)
+  pub moved : (i : ℕ) (e e' : Effect) (o : Option ℕ) (p : States) {r : Report} {st' : State} → ((k : ℕ) → p k ≡ after_any o st.pool k) → e ≡ e' → e'.seized ≡ o → r ≡ reported e → st' ≡ settled (with_pool p) i e → (Answer.Step (Ok r) ≡ answer_of st (Change i e')) × (st' ≡ applied st (Change i e'))
+  moved i e e' o p h q s a b = (ap (λ (x : Report). Answer.Step (Ok x)) (a ∙ ap reported q), b ∙ ap (settled (with_pool p) i) q ∙ seized_change p i e' o h s)
 
 -- what a taking answers and leaves
 pub first_taken : {X : Type 0} (r : Option X) (xs ys : List X) (P : Type 0) → (P → ys ≡ xs) → MatchOption r ((xs ≡ []) × P) (λ m. xs ≡ m ∷ ys) → (r ≡ first xs) × (ys ≡ drop 1 xs)

@@ -6,12 +6,12 @@ use Rattle.messages.specs.declared.record.Cause.{Cause}
 use Rattle.messages.specs.declared.record.Message.{Message}
 use Rattle.calls.specs.declared.record.Call.{Call}
 use Rattle.calls.specs.declared.record.Digits.{Digits}
+use Rattle.calls.specs.declared.record.Origin.{Origin}
 use Rattle.calls.specs.declared.sides.ExchangeSide.{ExchangeSide}
 use Rattle.calls.specs.declared.sides.SipSide.{SipSide}
-use Rattle.calls.specs.Words.{stage, is_over, sip_stage, is_unanswered, is_up_on, is_held_by, holds_from, owes_from, one_if, named, connects_in, finals_in, bye_in}
-use Rattle.calls.specs.Effects.{ExchangeMove, SipMove, stays, enters, ends, clears_exchange, retries, becomes, clears_from, invites, responds_from, answers_from, leaves_from}
-use Rattle.calls.specs.Rules.{Event, Cancel, Bye}
-use Rattle.calls.specs.Laws.{comes, parts, sends}
+use Rattle.calls.specs.Sides.{stage, is_over, sip_stage, is_unanswered, is_up_on, is_held_by, holds_from, owes_from, one_if, named, connects_in, finals_in, bye_in}
+use Rattle.calls.specs.Effects.{ExchangeMove, SipMove, stays, enters, ends, clears_exchange, retries, becomes, clears_from, invites, responds, answers, leaves_sip}
+use Rattle.calls.specs.Laws.{Brought, ABye, NoneOfThese, is_ok_on, is_bye_on, sends}
 
 -- a call that the exchange began, and that has not had its CONNECT yet
 abbrev pub may_connect_from : ℕ → ExchangeSide → CallReference → ℕ
@@ -43,58 +43,55 @@ retries_law k c e = record { channels = λ x. rw e (omega arith); connects = λ 
 
 -- what the SIP side's part keeps
 abbrev pub Linked : (ℕ → Option ℕ) → SipSide → Type 0
-Linked last SipSide.None = Unit {0}
-Linked last (SipSide.InviteSent x) = Unit {0}
 Linked last (SipSide.InviteUnanswered t d) = last t ≡ Some d
-Linked last (SipSide.Up d) = Unit {0}
-Linked last SipSide.CancelSent = Unit {0}
+Linked last _ = Unit {0}
 
 abbrev pub talks : ℕ → SipSide → ℕ
 talks d g = one_if (is_up_on d g)
 
-pub record SipLaw (ev : Event) (g : SipSide) (b : SipMove) : Type 0 where
+pub record SipLaw (ev : Brought) (g : SipSide) (b : SipMove) : Type 0 where
   pub invites : (t : ℕ) → owes_from t g ≡ finals_in t b.sent + owes_from t b.side
-  pub talking : (d : ℕ) → bye_in d b.sent ≡ false → parts d ev ≡ false → talks d g ≤ talks d b.side
-  pub opening : (d : ℕ) → comes d ev ≡ true → bye_in d b.sent ≡ false → talks d b.side ≡ 1
+  pub talking : (d : ℕ) → bye_in d b.sent ≡ false → is_bye_on d ev ≡ false → talks d g ≤ talks d b.side
+  pub opening : (d : ℕ) → is_ok_on d ev ≡ true → bye_in d b.sent ≡ false → talks d b.side ≡ 1
   pub sending : (last : ℕ → Option ℕ) (d : ℕ) → Linked last g → sends d last b.sent ≡ true → talks d b.side ≡ 1
   pub linked : (last : ℕ → Option ℕ) → Linked last g → Linked last b.side
 
 -- an event that is no 200
-abbrev pub Quiet : Event → Type 0
-Quiet ev = (d : ℕ) → comes d ev ≡ false
+abbrev pub Quiet : Brought → Type 0
+Quiet ev = (d : ℕ) → is_ok_on d ev ≡ false
 
-pub keeps_law : (ev : Event) → Quiet ev → (g : SipSide) → SipLaw ev g (becomes g [])
+pub keeps_law : (ev : Brought) → Quiet ev → (g : SipSide) → SipLaw ev g (becomes g [])
 keeps_law ev q g = record { invites = λ t. omega arith; talking = λ d a b. omega arith; opening = λ d e a. let z = q d in grind arith; sending = λ last d l e. grind arith; linked = λ last l. l }
 
-pub clears_sip_lem : (ev : Event) → Quiet ev → (n s : ℕ) → 300 ≤ s → s ≤ 699 → (g : SipSide) → SipLaw ev g (clears_from n s g)
-clears_sip_lem ev q n s lo hi g =
+pub clears_sip_lem : (ev : Brought) → Quiet ev → (origin : Origin) (s : ℕ) → 300 ≤ s → s ≤ 699 → (g : SipSide) → SipLaw ev g (clears_from origin s g)
+clears_sip_lem ev q origin s lo hi g =
     record { invites = λ t. grind (arith, nat_tests); talking = λ d a b. grind (arith, nat_tests); opening = λ d e a. let z = q d in grind (arith, nat_tests); sending = λ last d l e. grind (arith, nat_tests); linked = λ last l. grind (arith, nat_tests) }
 
 -- a provisional response
-pub tells_sip : (ev : Event) → Quiet ev → (s : ℕ) → s < 200 → (g : SipSide) → SipLaw ev g (responds_from s g)
+pub tells_sip : (ev : Brought) → Quiet ev → (s : ℕ) → s < 200 → (g : SipSide) → SipLaw ev g (responds s g)
 tells_sip ev q s lo g =
     record { invites = λ t. grind (arith, nat_tests); talking = λ d a b. grind (arith, nat_tests); opening = λ d e a. let z = q d in grind (arith, nat_tests); sending = λ last d l e. grind (arith, nat_tests); linked = λ last l. grind (arith, nat_tests) }
 
-pub answers_sip : (ev : Event) → Quiet ev → (g : SipSide) → SipLaw ev g (answers_from g)
+pub answers_sip : (ev : Brought) → Quiet ev → (g : SipSide) → SipLaw ev g (answers g)
 answers_sip ev q g =
     record { invites = λ t. grind (arith, nat_tests); talking = λ d a b. grind (arith, nat_tests); opening = λ d e a. let z = q d in grind (arith, nat_tests); sending = λ last d l e. grind (arith, nat_tests); linked = λ last l. grind (arith, nat_tests) }
 
 -- the other end's CANCEL, which finds an unanswered INVITE
-pub cancels_sip : (t : ℕ) (g : SipSide) → is_unanswered t g ≡ true → SipLaw (Cancel t) g (leaves_from g)
+pub cancels_sip : (t : ℕ) (g : SipSide) → is_unanswered t g ≡ true → SipLaw NoneOfThese g (leaves_sip g)
 cancels_sip x g h =
     record { invites = λ t. grind (arith, nat_tests); talking = λ d a b. grind (arith, nat_tests); opening = λ d e a. grind (arith, nat_tests); sending = λ last d l e. grind (arith, nat_tests); linked = λ last l. grind (arith, nat_tests) }
 
 -- the other end's BYE
-pub byes_sip : (y : ℕ) (g : SipSide) → is_held_by y g ≡ true → SipLaw (Bye y) g (leaves_from g)
+pub byes_sip : (y : ℕ) (g : SipSide) → is_held_by y g ≡ true → SipLaw (ABye y) g (leaves_sip g)
 byes_sip y g h =
     record { invites = λ t. grind (arith, nat_tests); talking = λ d a b. grind (arith, nat_tests); opening = λ d e a. grind (arith, nat_tests); sending = λ last d l e. grind (arith, nat_tests); linked = λ last l. grind (arith, nat_tests) }
 
 -- the SIP side goes over where no INVITE is unanswered and no call up
-pub offs_sip : (ev : Event) → Quiet ev → (g : SipSide) → (sip_stage g ≡ 2 → ⊥) → (sip_stage g ≡ 3 → ⊥) → SipLaw ev g (becomes SipSide.None [])
+pub offs_sip : (ev : Brought) → Quiet ev → (g : SipSide) → (sip_stage g ≡ 2 → ⊥) → (sip_stage g ≡ 3 → ⊥) → SipLaw ev g (becomes SipSide.None [])
 offs_sip ev q g n2 n3 =
     record { invites = λ t. grind (arith, nat_tests); talking = λ d a b. grind (arith, nat_tests); opening = λ d e a. let z = q d in grind (arith, nat_tests); sending = λ last d l e. grind (arith, nat_tests); linked = λ last l. tt }
 
 -- an INVITE goes out
-pub invites_sip : (ev : Event) → Quiet ev → (n : ℕ) (ds : Digits) (g : SipSide) → sip_stage g ≡ 0 → SipLaw ev g (invites n ds)
-invites_sip ev q n ds g e =
-    record { invites = λ t. grind (arith, nat_tests); talking = λ d a b. grind (arith, nat_tests); opening = λ d e a. let z = q d in grind (arith, nat_tests); sending = λ last d l e. grind (arith, nat_tests); linked = λ last l. tt }
+pub invites_sip : (ev : Brought) → Quiet ev → (origin : Origin) (ds : Digits) (g : SipSide) → sip_stage g ≡ 0 → SipLaw ev g (invites origin ds)
+invites_sip ev q origin ds g e =
+    record { invites = λ t. grind (arith, nat_tests); talking = λ d a b. grind (arith, nat_tests); opening = λ d e a. let z = q d in grind (arith, nat_tests); sending = λ last d l e. grind (arith, nat_tests); linked = λ last l. grind (arith, nat_tests) }

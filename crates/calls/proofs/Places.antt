@@ -2,9 +2,10 @@
 use Rattle.std.proofs.Common.{◌≡◌, ℕ, zero, suc, ◌+◌, ◌<◌, ◌≤◌, Bool, true, false, List, [], ◌∷◌, length, get_or, set, replicate, Some, None, Option, refl, le_of_suc-le-suc, not-suc-le-zero, arith, MatchOption}
 use Rattle.std.proofs.lemmas.Bool.{cond_both}
 use Rattle.calls.specs.declared.record.Call.{Call}
-use Rattle.calls.specs.Words.{on_call, sum_of}
+use Rattle.calls.specs.declared.record.Found.{Found}
+use Rattle.calls.specs.Sides.{on_call, sum_of}
 use Rattle.calls.specs.Standing.{Everywhere}
-use Rattle.calls.specs.Rules.{Found, later, seek}
+use Rattle.calls.specs.Rules.{later, seek}
 
 -- what holds at every place
 pub everywhere_at : (P : Option Call → Type 0) → P None → (os : List (Option Call)) (i : ℕ) → Everywhere P os → P (get_or os i None)

@@ -11,11 +11,12 @@ use Rattle.pools.specs.States.{States, idle}
 use Rattle.std.proofs.lemmas.Bool.{cond_both, cond-true, eq-eqb, eqb-true}
 use Rattle.pools.specs.declared.channel.ChannelState.{ChannelState}
 use Rattle.pools.specs.States.{seized, after_any}
-use Rattle.calls.specs.Words.{named, is_named, holds, owes, owes_from, on_call, sum_of, one_if, bye_in, holds_dialogue, is_in, is_invite_sent}
+use Rattle.calls.specs.Sides.{named, equals_some, holds, owes, owes_from, on_call, sum_of, one_if, bye_in, holds_dialogue, is_in, is_invite_sent}
 use Rattle.calls.specs.Effects.{Effect}
-use Rattle.calls.specs.Rules.{Event, Exchange, Invite, Cancel, Bye, Response, Expiry, CancelExpiry, TakeExchange, TakeSip, State, Outcome, Refuse, Reply, Move, TookExchange, TookSip, outcome, applied, first, freed}
+use Rattle.calls.specs.Rules.{Event, State, Outcome, Refuse, Reply, Change, TookExchange, TookSip, outcome, applied, first, freed}
 use Rattle.calls.specs.Run.{Happening, happened, Opening, Run, opened, stepped}
-use Rattle.calls.specs.Laws.{Laws, seizures, releases, holders, owing, inviting, invites_taken, finals_sent, setups_taken, connects_sent, asks, last_dialogue, is_unended, comes, sends, parts, Stands, option_to_list, exchange_sent, exchange_gone, sip_sent, sip_gone}
+use Rattle.calls.specs.Laws.{Laws, Brought, AnInvite, brought_by, invite_count, is_ok_on, is_bye_on, dialogue_after, seizures, releases, holders, owing, invites_taken, finals_sent, setups_taken, connects_sent, last_dialogue, is_unended, sends, Stands, exchange_sent, exchange_gone, sip_sent, sip_gone}
+use Rattle.std.specs.Option.{option_to_list}
 use Rattle.calls.proofs.Moves.{Linked}
 use Rattle.calls.specs.Standing.{Everywhere, sides_agree, SoundAt}
 use Rattle.calls.proofs.Balance.{Balanced, LinkedAt, PresentAt, talks_call, may_connect, Asked}
@@ -93,11 +94,11 @@ idle_is ChannelState.Idle e = refl
 idle_is ChannelState.Seized e = absurd (grind arith)
 
 -- what is shown of one channel
-taken_one : (s : States) (o : Option ℕ) (c : ℕ) → after_any o s c ≡ cond (is_named c o) ChannelState.Seized (s c)
+taken_one : (s : States) (o : Option ℕ) (c : ℕ) → after_any o s c ≡ cond (equals_some c o) ChannelState.Seized (s c)
 taken_one s None c = refl
 taken_one s (Some x) c = refl
 
-freed_one : (s : States) (o : Option ℕ) (c : ℕ) → freed o s c ≡ cond (is_named c o && seized (s c)) ChannelState.Idle (s c)
+freed_one : (s : States) (o : Option ℕ) (c : ℕ) → freed o s c ≡ cond (equals_some c o && seized (s c)) ChannelState.Idle (s c)
 freed_one s None c = refl
 freed_one s (Some x) c = go (eqb c x) (seized (s x)) (seized (s c)) (λ e. ap (λ k. seized (s k)) (sym (eqb-true c x e)))
   where
@@ -116,61 +117,40 @@ pool_free s r p p₀ h h' e i o w f l = grind (arith, nat_tests)
 pool_none : (s : Bool) (p p₀ : ChannelState) (h : ℕ) → (one_if s ≡ 1 → p ≡ ChannelState.Idle) → p ≡ cond (eqb h 0) p₀ ChannelState.Seized → one_if s ≡ 1 → h ≡ 0
 pool_none s p p₀ h i w e = grind (arith, nat_tests)
 
-inviting_le : (t : ℕ) (ev : Event) → inviting t ev ≤ 1
-inviting_le t (Exchange xs) = omega arith
-inviting_le t (Invite x d xs) = grind (arith, nat_tests)
-inviting_le t (Cancel x) = omega arith
-inviting_le t (Bye d) = omega arith
-inviting_le t (Response n s d media) = omega arith
-inviting_le t (Expiry x r) = omega arith
-inviting_le t (CancelExpiry n) = omega arith
-inviting_le t TakeExchange = omega arith
-inviting_le t TakeSip = omega arith
+invite_count_le : (t : ℕ) (ev : Brought) → invite_count t ev ≤ 1
+invite_count_le t (AnInvite x d) = grind (arith, nat_tests)
+invite_count_le t _ = omega arith
 
 none_or_one : (n : ℕ) → n ≤ 1 → (n ≡ 0) ⊎ (n ≡ 1)
 none_or_one zero h = inl refl
 none_or_one (suc n) h = inr (omega (arith, h))
 
 -- ---------------------------------------------------------------- the last INVITE of a transaction
-link_asked : (ev : Event) (t d : ℕ) (before : Option ℕ) → (inviting t ev ≡ 1 → ⊥) → before ≡ Some d → asks t ev before ≡ Some d
-link_asked (Exchange xs) t d before n e = e
-link_asked (Invite x y xs) t d before n e = cond_both (eqb x t) _ _ (λ o. o ≡ Some d) (λ z. absurd (n (ap one_if z))) (λ _. e)
-link_asked (Cancel x) t d before n e = e
-link_asked (Bye x) t d before n e = e
-link_asked (Response x s y media) t d before n e = e
-link_asked (Expiry x r) t d before n e = e
-link_asked (CancelExpiry x) t d before n e = e
-link_asked TakeExchange t d before n e = e
-link_asked TakeSip t d before n e = e
+link_asked : (ev : Brought) (t d : ℕ) (before : Option ℕ) → (invite_count t ev ≡ 1 → ⊥) → before ≡ Some d → dialogue_after t ev before ≡ Some d
+link_asked (AnInvite x y) t d before n e = cond_both (eqb x t) _ _ (λ o. o ≡ Some d) (λ z. absurd (n (ap one_if z))) (λ _. e)
+link_asked _ t d before n e = e
 
-abbrev next : Event → (ℕ → Option ℕ) → ℕ → Option ℕ
-next ev last t = asks t ev (last t)
+abbrev next : Brought → (ℕ → Option ℕ) → ℕ → Option ℕ
+next ev last t = dialogue_after t ev (last t)
 
 owes_itself : (t : ℕ) (d : ℕ) → owes_from t (SipSide.InviteUnanswered t d) ≡ 1
 owes_itself t d = grind (arith, nat_tests)
 
-link_side : (ev : Event) (last : ℕ → Option ℕ) (g : SipSide) → ((t : ℕ) → inviting t ev ≡ 1 → owes_from t g ≡ 0) → Linked last g → Linked (next ev last) g
+link_side : (ev : Brought) (last : ℕ → Option ℕ) (g : SipSide) → ((t : ℕ) → invite_count t ev ≡ 1 → owes_from t g ≡ 0) → Linked last g → Linked (next ev last) g
 link_side ev last SipSide.None f l = tt
 link_side ev last (SipSide.InviteSent x) f l = tt
 link_side ev last (SipSide.InviteUnanswered t d) f l = link_asked ev t d (last t) (λ e. omega (arith, f t e, owes_itself t d)) l
 link_side ev last (SipSide.Up d) f l = tt
 link_side ev last SipSide.CancelSent f l = tt
 
-links : (ev : Event) (last : ℕ → Option ℕ) (os : List (Option Call)) → ((t : ℕ) → inviting t ev ≡ 1 → sum_of (owes t) os ≡ 0) → Everywhere (LinkedAt last) os → Everywhere (LinkedAt (next ev last)) os
+links : (ev : Brought) (last : ℕ → Option ℕ) (os : List (Option Call)) → ((t : ℕ) → invite_count t ev ≡ 1 → sum_of (owes t) os ≡ 0) → Everywhere (LinkedAt last) os → Everywhere (LinkedAt (next ev last)) os
 links ev last [] f l = tt
 links ev last (None ∷ os) f l = (tt, links ev last os (λ t e. omega (arith, f t e)) l.1)
 links ev last (Some k ∷ os) f l = (link_side ev last k.sip (λ t e. omega (arith, f t e)) l.0, links ev last os (λ t e. omega (arith, f t e)) l.1)
 
-asked_now : (ev : Event) (last : ℕ → Option ℕ) → Asked (next ev last) ev
-asked_now (Exchange xs) last = tt
-asked_now (Invite t d xs) last = cond-true (eqb t t) (Some d) (last t) (eq-eqb t t refl)
-asked_now (Cancel t) last = tt
-asked_now (Bye d) last = tt
-asked_now (Response n s d media) last = tt
-asked_now (Expiry x r) last = tt
-asked_now (CancelExpiry n) last = tt
-asked_now TakeExchange last = tt
-asked_now TakeSip last = tt
+asked_now : (ev : Brought) (last : ℕ → Option ℕ) → Asked (next ev last) ev
+asked_now (AnInvite t d) last = cond-true (eqb t t) (Some d) (last t) (eq-eqb t t refl)
+asked_now _ last = tt
 
 -- ---------------------------------------------------------------- a step
 -- what an unended dialogue says of the last step
@@ -181,16 +161,19 @@ ended_cases false false true s u e = (refl, refl, inl refl)
 ended_cases false false false true u e = (refl, refl, inr (inl refl))
 ended_cases false false false false u e = (refl, refl, inr (inr e))
 
-module _ (pool : States) (past : List Happening) (st : State) (v : Inv pool past st) (ev : Event) where
-  refused : (r : _) → Inv pool (happened st ev (Refuse r) ∷ past) (applied st (Refuse r))
+module _ (pool : States) (past : List Happening) (st : State) (v : Inv pool past st) (event : Event) where
+  abbrev ev : Brought
+  ev = brought_by event
+
+  refused : (r : _) → Inv pool (happened st event (Refuse r) ∷ past) (applied st (Refuse r))
   refused r =
       record { counts = λ c. omega (arith, v.counts c); one = v.one; shows = v.shows; free = v.free; invites = λ t. omega (arith, v.invites t); owing_one = v.owing_one; talking = v.talking; linked = v.linked; connects = λ x. omega (arith, v.connects x); sound = v.sound; present = v.present; exchange_queue = idles (exchange_gone past) st.exchange (exchange_sent past) v.exchange_queue; sip_queue = idles (sip_gone past) st.sip (sip_sent past) v.sip_queue }
 
-  took_exchange : Inv pool (happened st ev TookExchange ∷ past) (applied st TookExchange)
+  took_exchange : Inv pool (happened st event TookExchange ∷ past) (applied st TookExchange)
   took_exchange =
       record { counts = λ c. omega (arith, v.counts c); one = v.one; shows = v.shows; free = v.free; invites = λ t. omega (arith, v.invites t); owing_one = v.owing_one; talking = v.talking; linked = v.linked; connects = λ x. omega (arith, v.connects x); sound = v.sound; present = v.present; exchange_queue = takes (exchange_gone past) st.exchange (exchange_sent past) v.exchange_queue; sip_queue = idles (sip_gone past) st.sip (sip_sent past) v.sip_queue }
 
-  took_sip : Inv pool (happened st ev TookSip ∷ past) (applied st TookSip)
+  took_sip : Inv pool (happened st event TookSip ∷ past) (applied st TookSip)
   took_sip =
       record { counts = λ c. omega (arith, v.counts c); one = v.one; shows = v.shows; free = v.free; invites = λ t. omega (arith, v.invites t); owing_one = v.owing_one; talking = v.talking; linked = v.linked; connects = λ x. omega (arith, v.connects x); sound = v.sound; present = v.present; exchange_queue = idles (exchange_gone past) st.exchange (exchange_sent past) v.exchange_queue; sip_queue = takes (sip_gone past) st.sip (sip_sent past) v.sip_queue }
 
@@ -198,12 +181,12 @@ module _ (pool : States) (past : List Happening) (st : State) (v : Inv pool past
   last = next ev (last_dialogue past)
 
   module _ (ms : List (Message Digits)) (ss : List SipMessage) (f : Fresh st ev) (b : Balanced st.pool None ev (spoken ms ss)) where
-    replied_talks : (d : ℕ) → is_unended d (happened st ev (Reply ms ss) ∷ past) ≡ true → 0 < sum_of (talks_call d) st.table
+    replied_talks : (d : ℕ) → is_unended d (happened st event (Reply ms ss) ∷ past) ≡ true → 0 < sum_of (talks_call d) st.table
     replied_talks d e =
-        let w = ended_cases (bye_in d ss) (parts d ev) (comes d ev) (sends d last ss) (is_unended d past) e in
+        let w = ended_cases (bye_in d ss) (is_bye_on d ev) (is_ok_on d ev) (sends d last ss) (is_unended d past) e in
         ⊎_elim (λ c. absurd (omega (arith, b.opening d c w.0))) (⊎_elim (λ s. absurd (omega (arith, b.sending last d tt s))) (v.talking d)) w.2
 
-    replied : Inv pool (happened st ev (Reply ms ss) ∷ past) (applied st (Reply ms ss))
+    replied : Inv pool (happened st event (Reply ms ss) ∷ past) (applied st (Reply ms ss))
     replied =
         record { counts = λ c. omega (arith, v.counts c); one = v.one; shows = v.shows; free = v.free; invites = λ t. omega (arith, v.invites t, b.invites t); owing_one = v.owing_one; talking = replied_talks; linked = links ev (last_dialogue past) st.table f v.linked; connects = λ x. omega (arith, v.connects x, b.connects x); sound = v.sound; present = v.present; exchange_queue = puts (exchange_gone past) st.exchange (exchange_sent past) v.exchange_queue ms; sip_queue = puts (sip_gone past) st.sip (sip_sent past) v.sip_queue ss }
 
@@ -224,11 +207,11 @@ module _ (pool : States) (past : List Happening) (st : State) (v : Inv pool past
     was_idle c h = idle_is (st.pool c) (b.idle c h)
 
     moved_one : (c : ℕ) → sum_of (holds c) after ≤ 1
-    moved_one c = pool_one (is_named c e.seized) (is_named c e.released) (holders c st) (sum_of (holds c) after) (level c) (pool_none (is_named c e.seized) (st.pool c) (pool c) (holders c st) (was_idle c) (v.shows c)) (v.one c)
+    moved_one c = pool_one (equals_some c e.seized) (equals_some c e.released) (holders c st) (sum_of (holds c) after) (level c) (pool_none (equals_some c e.seized) (st.pool c) (pool c) (holders c st) (was_idle c) (v.shows c)) (v.one c)
 
     moved_owing : (t : ℕ) → sum_of (owes t) after ≤ 1
     moved_owing t =
-        ⊎_elim (λ z. omega (arith, z, v.owing_one t, changed (owes t), b.invites t)) (λ z. omega (arith, z, f t z, changed (owes t), b.invites t, sum_of_at (owes t) st.table i)) (none_or_one (inviting t ev) (inviting_le t ev))
+        ⊎_elim (λ z. omega (arith, z, v.owing_one t, changed (owes t), b.invites t)) (λ z. omega (arith, z, f t z, changed (owes t), b.invites t, sum_of_at (owes t) st.table i)) (none_or_one (invite_count t ev) (invite_count_le t ev))
 
     relinked : Everywhere (LinkedAt last) st.table
     relinked = links ev (last_dialogue past) st.table f v.linked
@@ -236,20 +219,20 @@ module _ (pool : States) (past : List Happening) (st : State) (v : Inv pool past
     old_linked : LinkedAt last old
     old_linked = everywhere_at (LinkedAt last) tt st.table i relinked
 
-    moved_talks : (d : ℕ) → is_unended d (happened st ev (Move i e) ∷ past) ≡ true → 0 < sum_of (talks_call d) after
+    moved_talks : (d : ℕ) → is_unended d (happened st event (Change i e) ∷ past) ≡ true → 0 < sum_of (talks_call d) after
     moved_talks d h =
-        let w = ended_cases (bye_in d e.sip) (parts d ev) (comes d ev) (sends d last e.sip) (is_unended d past) h in
+        let w = ended_cases (bye_in d e.sip) (is_bye_on d ev) (is_ok_on d ev) (sends d last e.sip) (is_unended d past) h in
         let step = changed (talks_call d) in
         let low = sum_of_at (talks_call d) st.table i in
         ⊎_elim (λ c. omega (arith, b.opening d c w.0, step, low)) (⊎_elim (λ s. omega (arith, b.sending last d old_linked s, step, low)) (λ u. omega (arith, v.talking d u, b.talking d w.0 w.1, step))) w.2
 
-    moves : Inv pool (happened st ev (Move i e) ∷ past) (applied st (Move i e))
+    moves : Inv pool (happened st event (Change i e) ∷ past) (applied st (Change i e))
     moves =
         record {
           counts = λ c. omega (arith, v.counts c, changed (holds c), b.channels c);
           one = moved_one;
-          shows = λ c. freed_one (after_any e.seized st.pool) e.released c ∙ pool_shows (is_named c e.seized) (is_named c e.released) (st.pool c) (pool c) (holders c st) (sum_of (holds c) after) (level c) (was_idle c) (v.one c) (v.shows c) (v.free c) _ (taken_one st.pool e.seized c);
-          free = λ c. pool_free (is_named c e.seized) (is_named c e.released) (st.pool c) (pool c) (holders c st) (sum_of (holds c) after) (level c) (was_idle c) (v.one c) (v.shows c) (v.free c);
+          shows = λ c. freed_one (after_any e.seized st.pool) e.released c ∙ pool_shows (equals_some c e.seized) (equals_some c e.released) (st.pool c) (pool c) (holders c st) (sum_of (holds c) after) (level c) (was_idle c) (v.one c) (v.shows c) (v.free c) _ (taken_one st.pool e.seized c);
+          free = λ c. pool_free (equals_some c e.seized) (equals_some c e.released) (st.pool c) (pool c) (holders c st) (sum_of (holds c) after) (level c) (was_idle c) (v.one c) (v.shows c) (v.free c);
           invites = λ t. omega (arith, v.invites t, changed (owes t), b.invites t);
           owing_one = moved_owing;
           talking = moved_talks;
@@ -261,10 +244,10 @@ module _ (pool : States) (past : List Happening) (st : State) (v : Inv pool past
           sip_queue = puts (sip_gone past) st.sip (sip_sent past) v.sip_queue e.sip;
         }
 
-  step : (o : Outcome) → Lawful st ev o → Inv pool (happened st ev o ∷ past) (applied st o)
+  step : (o : Outcome) → Lawful st ev o → Inv pool (happened st event o ∷ past) (applied st o)
   step (Refuse r) l = refused r
   step (Reply ms ss) l = replied ms ss l.0 l.1
-  step (Move i e) l = moves i e l.0 l.1 l.2
+  step (Change i e) l = moves i e l.0 l.1 l.2
   step TookExchange l = took_exchange
   step TookSip l = took_sip
 

@@ -1,5 +1,5 @@
 -- Collisions, step by step: the events, the answer of each, and the messages as they are taken.
-use Rattle.std.specs.Prelude.{◌≡◌, ℕ, true, false, cond, ◌||◌, List, [], ◌∷◌, replicate, Some, None, Ok, Option, ◌==◌}
+use Rattle.std.specs.Prelude.{◌≡◌, ℕ, true, false, ◌||◌, List, [], ◌∷◌, replicate, Some, None, Ok, Option, ◌==◌, if◌then◌else◌}
 use Rattle.messages.specs.declared.kind.MessageType.{MessageType}
 use Rattle.messages.specs.declared.record.Message.{Message}
 use Rattle.messages.specs.Laws.{setup417_octets, LayoutExamples}
@@ -26,10 +26,10 @@ opened pool =
 
 -- pools of two channels and of one, all idle
 abbrev pub seven_and_nine : States
-seven_and_nine c = cond (c == 7 || c == 9) Idle Unknown
+seven_and_nine c = if c == 7 || c == 9 then Idle else Unknown
 
 abbrev pub seven_alone : States
-seven_alone c = cond (c == 7) Idle Unknown
+seven_alone c = if c == 7 then Idle else Unknown
 
 -- 417
 abbrev pub digits : List ℕ

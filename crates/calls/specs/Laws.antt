@@ -1,10 +1,12 @@
 -- The run law: what every history of a gateway has to do with the state that it led to.
-use Rattle.std.specs.Prelude.{◌≡◌, ℕ, ◌+◌, ◌<◌, ◌≤◌, Bool, true, false, cond, not, ◌&&◌, ◌||◌, List, [], ◌∷◌, ◌++◌, Some, None, Ok, Err, Option, Result, ◌==◌, slice_index_or}
+use Rattle.std.specs.Prelude.{◌≡◌, ℕ, ◌+◌, ◌<◌, ◌≤◌, Bool, true, false, not, ◌&&◌, ◌||◌, List, [], ◌∷◌, ◌++◌, Some, None, Ok, Err, Option, Result, ◌==◌, if◌then◌else◌, slice_index_or}
+use Rattle.std.specs.Option.{option_to_list}
 use Rattle.messages.specs.declared.record.Message.{Message}
 use Rattle.messages.specs.declared.record.Misread.{Misread}
 use Rattle.messages.specs.Elements.{DigitsPart}
 use Rattle.messages.specs.Reading.{decoded}
 use Rattle.messages.specs.Types.{is_setup}
+use Rattle.causes.specs.Names
 use Rattle.pools.specs.declared.channel.ChannelState.TheVariants.{Idle, Seized}
 use Rattle.pools.specs.States.{States}
 use Rattle.calls.specs.declared.answers.Answer.{Answer}
@@ -13,21 +15,63 @@ use Rattle.calls.specs.declared.outgoing.SipMessage.{SipMessage}
 use Rattle.calls.specs.declared.record.Call.{Call}
 use Rattle.calls.specs.declared.record.Digits.{Digits}
 use Rattle.calls.specs.declared.sides.ExchangeSide.{ExchangeSide}
-use Rattle.calls.specs.Words.{is_in, is_invite_sent, is_gone, one_if, named, holds, owes, sum_of, holds_dialogue, connects_in, finals_in, bye_in}
-use Rattle.calls.specs.Rules.{Event, Exchange, Invite, Cancel, Bye, Response, Expiry, CancelExpiry, TakeExchange, TakeSip, State, Stepping}
+use Rattle.calls.specs.Sides.{is_in, is_invite_sent, is_gone, one_if, equals_some, named, holds, owes, sum_of, holds_dialogue, connects_in, finals_in, bye_in}
+use Rattle.calls.specs.Rules.{Event, Exchange, Invite, Bye, Response, State, Stepping}
 use Rattle.calls.specs.Run.{Happening, Opening, Run, Tells}
+
+-- ---------------------------------------------------------------- what an event brings
+-- what the laws count of an event: a SETUP with its reference, an INVITE with its transaction and dialogue, a 200 or a BYE on a
+-- dialogue, or nothing of these
+pub data Brought : Type 0 where
+  ASetup : ℕ → Brought
+  AnInvite : ℕ → ℕ → Brought
+  AnOk : ℕ → Brought
+  ABye : ℕ → Brought
+  NoneOfThese : Brought
+
+abbrev pub brought_by_octets : Result (Message DigitsPart) Misread → Brought
+brought_by_octets (Ok m) = if is_setup m.kind then ASetup m.reference.number else NoneOfThese
+brought_by_octets (Err x) = NoneOfThese
+
+abbrev pub brought_by : Event → Brought
+brought_by (Exchange xs) = brought_by_octets (decoded xs)
+brought_by (Invite t d xs) = AnInvite t d
+brought_by (Bye d) = ABye d
+brought_by (Response n s d media) = if s == Names.ok then AnOk d else NoneOfThese
+brought_by _ = NoneOfThese
+
+-- SETUPs with reference r, INVITEs with transaction t
+abbrev pub setup_count : ℕ → Brought → ℕ
+setup_count r (ASetup x) = one_if (x == r)
+setup_count r _ = 0
+
+abbrev pub invite_count : ℕ → Brought → ℕ
+invite_count t (AnInvite x d) = one_if (x == t)
+invite_count t _ = 0
+
+-- a 200 on dialogue d that comes, and a BYE on it
+abbrev pub is_ok_on : ℕ → Brought → Bool
+is_ok_on d (AnOk x) = x == d
+is_ok_on d _ = false
+
+abbrev pub is_bye_on : ℕ → Brought → Bool
+is_bye_on d (ABye x) = x == d
+is_bye_on d _ = false
+
+-- the dialogue of the last INVITE with transaction t, this one or one before
+abbrev pub dialogue_after : ℕ → Brought → Option ℕ → Option ℕ
+dialogue_after t (AnInvite x d) before = if x == t then Some d else before
+dialogue_after t _ before = before
 
 -- ---------------------------------------------------------------- counts over a history
 abbrev pub total : (Happening → ℕ) → List Happening → ℕ
 total f [] = 0
 total f (h ∷ hs) = f h + total f hs
 
--- nothing counts of what was refused or is a taking
+-- nothing counts of what was refused, or where a message was taken
 abbrev pub on_report : (Report → ℕ) → Answer → ℕ
 on_report f (Answer.Step (Ok r)) = f r
-on_report f (Answer.Step (Err x)) = 0
-on_report f (Answer.Exchange m) = 0
-on_report f (Answer.Sip m) = 0
+on_report f _ = 0
 
 -- reports that name channel c seized, and released
 abbrev pub seizures : ℕ → List Happening → ℕ
@@ -37,124 +81,47 @@ abbrev pub releases : ℕ → List Happening → ℕ
 releases c = total (λ h. on_report (λ r. named c r.released) h.answer)
 
 -- INVITEs with transaction t that were not refused
-abbrev pub inviting : ℕ → Event → ℕ
-inviting t (Exchange xs) = 0
-inviting t (Invite x d xs) = one_if (x == t)
-inviting t (Cancel x) = 0
-inviting t (Bye d) = 0
-inviting t (Response n s d media) = 0
-inviting t (Expiry x r) = 0
-inviting t (CancelExpiry n) = 0
-inviting t TakeExchange = 0
-inviting t TakeSip = 0
-
 abbrev pub invites_taken : ℕ → List Happening → ℕ
-invites_taken t = total (λ h. on_report (λ r. inviting t h.event) h.answer)
+invites_taken t = total (λ h. on_report (λ r. invite_count t (brought_by h.event)) h.answer)
 
 -- final responses with transaction t that were sent
 abbrev pub finals_sent : ℕ → List Happening → ℕ
 finals_sent t = total (λ h. finals_in t h.sip)
 
--- SETUPs that brought reference r and were not refused
-abbrev pub bringing : ℕ → Result (Message DigitsPart) Misread → ℕ
-bringing r (Ok m) = one_if (is_setup m.kind && m.reference.number == r)
-bringing r (Err x) = 0
-
-abbrev pub brings : ℕ → Event → ℕ
-brings r (Exchange xs) = bringing r (decoded xs)
-brings r (Invite x d xs) = 0
-brings r (Cancel x) = 0
-brings r (Bye d) = 0
-brings r (Response n s d media) = 0
-brings r (Expiry x y) = 0
-brings r (CancelExpiry n) = 0
-brings r TakeExchange = 0
-brings r TakeSip = 0
-
+-- SETUPs that brought reference x and were not refused
 abbrev pub setups_taken : ℕ → List Happening → ℕ
-setups_taken x = total (λ h. on_report (λ r. brings x h.event) h.answer)
+setups_taken x = total (λ h. on_report (λ r. setup_count x (brought_by h.event)) h.answer)
 
 -- CONNECTs with reference r that were sent
 abbrev pub connects_sent : ℕ → List Happening → ℕ
-connects_sent x = total (λ h. connects_in x h.exchange)
+connects_sent r = total (λ h. connects_in r h.exchange)
 
 -- ---------------------------------------------------------------- dialogues
+abbrev pub is_unrefused : Answer → Bool
+is_unrefused (Answer.Step (Ok r)) = true
+is_unrefused _ = false
+
 -- the dialogue of the last INVITE with transaction t that was not refused
-abbrev pub asks : ℕ → Event → Option ℕ → Option ℕ
-asks t (Exchange xs) before = before
-asks t (Invite x d xs) before = cond (x == t) (Some d) before
-asks t (Cancel x) before = before
-asks t (Bye d) before = before
-asks t (Response n s d media) before = before
-asks t (Expiry x r) before = before
-asks t (CancelExpiry n) before = before
-asks t TakeExchange before = before
-asks t TakeSip before = before
-
-abbrev pub asked : ℕ → Event → Answer → Option ℕ → Option ℕ
-asked t ev (Answer.Step (Ok r)) before = asks t ev before
-asked t ev (Answer.Step (Err x)) before = before
-asked t ev (Answer.Exchange m) before = before
-asked t ev (Answer.Sip m) before = before
-
 abbrev pub last_dialogue : List Happening → ℕ → Option ℕ
 last_dialogue [] t = None
-last_dialogue (h ∷ hs) t = asked t h.event h.answer (last_dialogue hs t)
-
--- a 200 on dialogue d that comes
-abbrev pub comes : ℕ → Event → Bool
-comes d (Exchange xs) = false
-comes d (Invite x y xs) = false
-comes d (Cancel x) = false
-comes d (Bye y) = false
-comes d (Response n s y media) = s == 200 && y == d
-comes d (Expiry x r) = false
-comes d (CancelExpiry n) = false
-comes d TakeExchange = false
-comes d TakeSip = false
+last_dialogue (h ∷ hs) t = if is_unrefused h.answer then dialogue_after t (brought_by h.event) (last_dialogue hs t) else last_dialogue hs t
 
 -- a 200 on dialogue d that is sent: its dialogue is that of the last INVITE with its transaction
-abbrev pub is : ℕ → Option ℕ → Bool
-is d None = false
-is d (Some x) = x == d
-
 abbrev pub sends_one : ℕ → (ℕ → Option ℕ) → SipMessage → Bool
-sends_one d last (SipMessage.Invite n ds) = false
-sends_one d last (SipMessage.Cancel n) = false
-sends_one d last (SipMessage.Ack n x) = false
-sends_one d last (SipMessage.Bye x) = false
-sends_one d last (SipMessage.Response t s) = s == 200 && is d (last t)
+sends_one d last (SipMessage.Response t s) = s == Names.ok && equals_some d (last t)
+sends_one d last _ = false
 
 abbrev pub sends : ℕ → (ℕ → Option ℕ) → List SipMessage → Bool
 sends d last [] = false
 sends d last (m ∷ ms) = sends_one d last m || sends d last ms
 
--- a BYE on dialogue d that comes
-abbrev pub parts : ℕ → Event → Bool
-parts d (Exchange xs) = false
-parts d (Invite x y xs) = false
-parts d (Cancel x) = false
-parts d (Bye y) = y == d
-parts d (Response n s y media) = false
-parts d (Expiry x r) = false
-parts d (CancelExpiry n) = false
-parts d TakeExchange = false
-parts d TakeSip = false
-
--- it came, and was not refused
-abbrev pub unrefused : Bool → Answer → Bool
-unrefused b (Answer.Step (Ok r)) = b
-unrefused b (Answer.Step (Err x)) = false
-unrefused b (Answer.Exchange m) = false
-unrefused b (Answer.Sip m) = false
-
 -- a BYE on dialogue d, sent or come unrefused
 abbrev pub bye_at : ℕ → Happening → Bool
-bye_at d h = bye_in d h.sip || unrefused (parts d h.event) h.answer
+bye_at d h = bye_in d h.sip || (is_unrefused h.answer && is_bye_on d (brought_by h.event))
 
 -- a 200 on dialogue d, come unrefused or sent
 abbrev pub ok_at : ℕ → (ℕ → Option ℕ) → Happening → Bool
-ok_at d last h = unrefused (comes d h.event) h.answer || sends d last h.sip
+ok_at d last h = (is_unrefused h.answer && is_ok_on d (brought_by h.event)) || sends d last h.sip
 
 -- a 200 on dialogue d, and no BYE from the step of the last such 200 on
 abbrev pub is_unended : ℕ → List Happening → Bool
@@ -185,20 +152,14 @@ abbrev pub oldest_first : {M : Type 0} → (Happening → List M) → List Happe
 oldest_first f [] = []
 oldest_first f (h ∷ hs) = oldest_first f hs ++ f h
 
-abbrev pub option_to_list : {M : Type 0} → Option M → List M
-option_to_list None = []
-option_to_list (Some m) = m ∷ []
-
--- what a taking took
+-- what was taken from either queue
 abbrev pub exchange_taken : Answer → List (Message Digits)
-exchange_taken (Answer.Step r) = []
 exchange_taken (Answer.Exchange m) = option_to_list m
-exchange_taken (Answer.Sip m) = []
+exchange_taken _ = []
 
 abbrev pub sip_taken : Answer → List SipMessage
-sip_taken (Answer.Step r) = []
-sip_taken (Answer.Exchange m) = []
 sip_taken (Answer.Sip m) = option_to_list m
+sip_taken _ = []
 
 -- all that was sent to either side, and all that was taken from its queue
 abbrev pub exchange_sent : List Happening → List (Message Digits)

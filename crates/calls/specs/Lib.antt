@@ -1,5 +1,5 @@
 pub mod Refusing
-pub mod Words
+pub mod Sides
 pub mod Standing
 pub mod Effects
 pub mod Rules

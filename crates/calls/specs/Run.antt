@@ -4,7 +4,7 @@ use Rattle.messages.specs.declared.record.Message.{Message}
 use Rattle.calls.specs.declared.answers.Answer.{Answer}
 use Rattle.calls.specs.declared.outgoing.SipMessage.{SipMessage}
 use Rattle.calls.specs.declared.record.Digits.{Digits}
-use Rattle.calls.specs.Rules.{Event, State, Choice, Fair, Outcome, Refuse, Reply, Move, TookExchange, TookSip, outcome, applied, answer_of}
+use Rattle.calls.specs.Rules.{Event, State, Choice, Fair, Outcome, Reply, Change, outcome, applied, answer_of}
 
 -- an event, its answer, and what was put into the two queues
 pub record Happening : Type 0 where
@@ -14,18 +14,14 @@ pub record Happening : Type 0 where
   pub sip : List SipMessage
 
 abbrev pub put_exchange : Outcome → List (Message Digits)
-put_exchange (Refuse r) = []
 put_exchange (Reply ms ss) = ms
-put_exchange (Move i e) = e.exchange
-put_exchange TookExchange = []
-put_exchange TookSip = []
+put_exchange (Change i e) = e.exchange
+put_exchange _ = []
 
 abbrev pub put_sip : Outcome → List SipMessage
-put_sip (Refuse r) = []
 put_sip (Reply ms ss) = ss
-put_sip (Move i e) = e.sip
-put_sip TookExchange = []
-put_sip TookSip = []
+put_sip (Change i e) = e.sip
+put_sip _ = []
 
 abbrev pub happened : State → Event → Outcome → Happening
 happened st ev o = record { event = ev; answer = answer_of st o; exchange = put_exchange o; sip = put_sip o }

@@ -1,9 +1,9 @@
 -- What holds of every call of a gateway, whatever has happened: how the states of its two sides go together.
-use Rattle.std.specs.Prelude.{◌≡◌, Bool, true, not, ◌&&◌, ◌||◌, List, [], ◌∷◌, Some, None, Option, ◌==◌}
+use Rattle.std.specs.Prelude.{◌≡◌, Bool, true, not, ◌&&◌, ◌||◌, List, [], ◌∷◌, Some, None, Option}
 use Rattle.calls.specs.declared.record.Call.{Call}
 use Rattle.calls.specs.declared.sides.ExchangeSide.{ExchangeSide}
 use Rattle.calls.specs.declared.sides.SipSide.{SipSide}
-use Rattle.calls.specs.Words.{stage, sip_stage}
+use Rattle.calls.specs.Sides.{is_in, is_invite_sent, is_no_sip}
 
 -- something holds at every place of a table
 abbrev pub Everywhere : (Option Call → Type 0) → List (Option Call) → Type 0
@@ -11,8 +11,9 @@ Everywhere P [] = Unit {0}
 Everywhere P (o ∷ os) = P o × Everywhere P os
 
 -- an INVITE of the gateway's own is out only while the call proceeds; nothing is out while digits are collected
-abbrev pub matches : ExchangeSide → SipSide → Bool
-sides_agree l g = (not (sip_stage g == 1) || stage l == 2) && (not (stage l == 1) || sip_stage g == 0)
+abbrev pub sides_agree : ExchangeSide → SipSide → Bool
+sides_agree exchange sip =
+    (not (is_invite_sent sip) || is_in ExchangeSide.Proceeding exchange) && (not (is_in ExchangeSide.Collecting exchange) || is_no_sip sip)
 
 abbrev pub SoundAt : Option Call → Type 0
 SoundAt None = Unit {0}

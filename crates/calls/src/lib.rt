@@ -13,5 +13,5 @@ pub use answers::{Answer, Refused, Report, Timer};
 pub use incoming::{Invite, Response};
 pub use laws::{collisions_stand, examples_stand, run_law_stands};
 pub use outgoing::SipMessage;
-pub use record::{Call, Digits};
-pub use sides::{ExchangeSide, SipSide, Told};
+pub use record::{Call, Digits, Found, Origin};
+pub use sides::{ExchangeSide, News, SipSide, Told};

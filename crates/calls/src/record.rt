@@ -9,6 +9,15 @@ pub struct Digits {
     pub count: usize,
 }
 
+/// Where a call came from.
+#[derive(Clone, Copy, PartialEq, Eq, Debug)]
+pub enum Origin {
+    /// A SETUP made it. The number is that of the INVITE that goes out, from 1 on, and is the call's for its life.
+    Exchange { number: u64 },
+    /// An INVITE made it.
+    Sip,
+}
+
 /// A call. What it holds, owes and awaits is asked by the functions of its two sides.
 #[derive(Clone, Copy, PartialEq, Eq, Debug)]
 pub struct Call {
@@ -16,9 +25,15 @@ pub struct Call {
     pub reference: CallReference,
     /// The call's own while its exchange side is not over.
     pub channel: u8,
-    /// The transaction of the INVITE that goes out, of a call that a SETUP made; kept for the call's life.
-    pub number: Option<u64>,
+    pub origin: Origin,
     pub digits: Digits,
     pub exchange: ExchangeSide,
     pub sip: SipSide,
+}
+
+/// A call that was looked for, and its place in the table, below 64.
+#[derive(Clone, Copy, PartialEq, Eq, Debug)]
+pub struct Found {
+    pub place: usize,
+    pub call: Call,
 }

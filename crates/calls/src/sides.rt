@@ -33,6 +33,15 @@ pub struct Told {
     pub inband: bool,
 }
 
+/// What a provisional response makes known: that the called party is alerted, that something is to be heard in band, or that
+/// the call is not QSIG from end to end.
+#[derive(Clone, Copy, PartialEq, Eq, Debug)]
+pub enum News {
+    Alerting,
+    InBand,
+    Interworking,
+}
+
 /// How far a call has come on the side of SIP.
 #[derive(Clone, Copy, PartialEq, Eq, Debug)]
 pub enum SipSide {

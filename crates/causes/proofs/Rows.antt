@@ -2,7 +2,8 @@
 use Rattle.std.proofs.Common.{◌≡◌, ℕ, ◌≤◌, true, false, cond, ◌&&◌, eqb, List, [], ◌∷◌, Some, sym, refl, subst, lit≤, rules}
 use Rattle.std.specs.List.{find}
 use Rattle.std.specs.Option.{option_map_or}
-use Rattle.std.proofs.lemmas.Bool.{and_parts}
+use Rattle.std.proofs.lemmas.Bool.{and_parts, cond_both}
+use Rattle.causes.specs.Names.{call_rejected, user, decline, server_internal_error}
 use Rattle.causes.specs.Mapping.{cause_rows, second_of, Between, within, all_within, status_of}
 
 -- the lookup is a search for the first row that begins with the key
@@ -27,5 +28,5 @@ between rows key other r e = subst (Between rows other) (sym e) (found rows key 
 -- the status for a cause is a final response that refuses, whatever the numbers
 pub final_failure : (cause location : ℕ) → (300 ≤ status_of cause location) × (status_of cause location ≤ 699)
 final_failure cause location =
-    let listed = found cause_rows cause 500 300 699 refl in
-    elim (eqb cause 21 && eqb location 0) as (λ v. (300 ≤ cond v 603 (second_of cause_rows cause 500)) × (cond v 603 (second_of cause_rows cause 500) ≤ 699)) [ true ↦ (lit≤ tt, lit≤ tt) | false ↦ listed ]
+    cond_both (eqb cause call_rejected && eqb location user) decline (second_of cause_rows cause server_internal_error) (λ (status : ℕ). (300 ≤ status) × (status ≤ 699))
+    (λ _. (lit≤ tt, lit≤ tt)) (λ _. found cause_rows cause server_internal_error 300 699 refl)

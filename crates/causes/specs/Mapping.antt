@@ -1,5 +1,6 @@
 -- The two tables between Q.850 causes and SIP statuses, and what they answer for every number.
-use Rattle.std.specs.Prelude.{◌≡◌, ℕ, ◌≤◌, Bool, true, cond, ◌&&◌, List, [], ◌∷◌, Some, None, Option, ◌==◌, nat_le}
+use Rattle.std.specs.Prelude.{◌≡◌, ℕ, ◌≤◌, Bool, true, ◌&&◌, List, [], ◌∷◌, Some, None, Option, ◌==◌, if◌then◌else◌, nat_le}
+use Rattle.causes.specs.Names.{user, remote_private_network, call_rejected, normal_unspecified, decline, server_internal_error}
 
 -- a cause value and the status that answers an INVITE whose call was cleared with it;
 -- the row of cause 21 is for every location but the user
@@ -25,7 +26,7 @@ status_rows =
 -- what stands beside `key` in the first row that begins with it, or `other` where no row does
 abbrev pub second_of : List (ℕ × ℕ) → ℕ → ℕ → ℕ
 second_of [] key other = other
-second_of (row ∷ rest) key other = cond (row.0 == key) row.1 (second_of rest key other)
+second_of (row ∷ rest) key other = if row.0 == key then row.1 else second_of rest key other
 
 abbrev pub within : ℕ → ℕ → ℕ → Bool
 within low high n = nat_le low n && nat_le n high
@@ -41,17 +42,18 @@ Between rows other n = (low high : ℕ) → all_within low high rows other ≡ t
 
 -- the status for a cause: a call rejected by the user himself is declined, any cause in no row is a server error
 abbrev pub status_of : ℕ → ℕ → ℕ
-status_of cause location = cond (cause == 21 && location == 0) 603 (second_of cause_rows cause 500)
+status_of cause location =
+    if cause == call_rejected && location == user then decline else second_of cause_rows cause server_internal_error
 
 -- where a cause comes from that stands for a status: the user for 600 to 699, else the private network that serves the remote user
 abbrev pub location_of : ℕ → ℕ
-location_of status = cond (within 600 699 status) 0 5
+location_of status = if within 600 699 status then user else remote_private_network
 
 -- the cause value and the location for a status; a status in no row is normal, unspecified
 abbrev pub cause_of : ℕ → ℕ × ℕ
-cause_of status = (second_of status_rows status 31, location_of status)
+cause_of status = (second_of status_rows status normal_unspecified, location_of status)
 
 -- a clearing message without a cause counts as normal, unspecified
 abbrev pub counted_cause : Option ℕ → ℕ
-counted_cause None = 31
+counted_cause None = normal_unspecified
 counted_cause (Some cause) = cause

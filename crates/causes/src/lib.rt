@@ -3,24 +3,20 @@
 
 ghost use Rattle.std.specs.Prelude.{◌≡◌, ◌≤◌, true};
 ghost use Rattle.causes.specs.Mapping.{status_rows, second_of, Between, status_of, location_of, cause_of, counted_cause};
+ghost use Rattle.causes.specs.Names.{normal_unspecified};
 ghost use Rattle.causes.specs.Examples.{CauseExamples};
 
 use messages::Cause;
 
-const USER_BUSY: u8 = 17;
+mod names;
 
-const CALL_REJECTED: u8 = 21;
-
-const NORMAL_UNSPECIFIED: u8 = 31;
-
-// Locations of a cause: the user, and the private network that serves the remote user.
-pub const USER: u8 = 0;
-
-pub const REMOTE_PRIVATE_NETWORK: u8 = 5;
-
-const DECLINE: u16 = 603;
-
-const SERVER_INTERNAL_ERROR: u16 = 500;
+pub use names::{
+    ADDRESS_INCOMPLETE, CALL_REJECTED, CHANNEL_UNAVAILABLE, DECLINE, INVALID_CALL_REFERENCE,
+    INVALID_NUMBER_FORMAT, NO_CHANNEL_AVAILABLE, NORMAL_CLEARING, NORMAL_UNSPECIFIED, NOT_FOUND,
+    OK, RECOVERY_ON_TIMER_EXPIRY, REMOTE_PRIVATE_NETWORK, REQUEST_TERMINATED, REQUEST_TIMEOUT,
+    RINGING, SERVER_INTERNAL_ERROR, SERVICE_UNAVAILABLE, SESSION_PROGRESS,
+    SWITCHING_EQUIPMENT_CONGESTION, TEMPORARILY_UNAVAILABLE, USER, USER_BUSY,
+};
 
 // A cause value and the status that answers an INVITE whose call was cleared with it.
 // Numbers of one type in both tables: over type parameters the promise of `beside` would speak of each type's own equality in place of numbers.
@@ -133,7 +129,7 @@ pub fn counted_cause(cause: Option<u8>) -> u8
 
 // The cause value for a final response with this status, as its element can hold it.
 fn listed_cause(status: u16) -> u16
-    ensures cause_of_the_status { result ≡ second_of status_rows status 31 }
+    ensures cause_of_the_status { result ≡ second_of status_rows status normal_unspecified }
     ensures seven_bits { (0 ≤ result) × (result ≤ 127) }
 {
     beside(&STATUS_TO_CAUSE, status, u16::from(NORMAL_UNSPECIFIED))

@@ -8,7 +8,7 @@ use Rattle.messages.specs.Elements.{DigitsPart}
 use Rattle.queues.specs.Few.{few_items}
 use Rattle.calls.specs.declared.record.Call.{Call}
 use Rattle.calls.specs.declared.sides.ExchangeSide.{ExchangeSide}
-use Rattle.calls.specs.Words.{is_in}
+use Rattle.calls.specs.Sides.{is_in}
 use Rattle.calls.specs.Effects.{is_unavailable}
 use Rattle.pools.specs.declared.channel.ChannelState.TheVariants.{Unknown}
 use Rattle.calls.specs.Rules.{Outcome, Found, State, refuse, rejects, on_response}

@@ -1,7 +1,7 @@
 //! Events from SIP.
 ghost use Rattle.std.specs.Prelude.{◌≡◌, true, Ok};
 ghost use Rattle.std.specs.Result.{result_err};
-ghost use Rattle.calls.specs.Words.{holds_dialogue};
+ghost use Rattle.calls.specs.Sides.{holds_dialogue};
 ghost use Rattle.calls.specs.Effects.{on_cancel_expiry};
 ghost use Rattle.calls.specs.Rules.{seek, by_transaction, by_number, at_call, on_leave, another, on_ok, on_other, is_status};
 ghost use Rattle.call_table.specs.Keys.{found_of};

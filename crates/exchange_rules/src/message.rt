@@ -1,6 +1,6 @@
 //! A message from the exchange that finds its call.
 ghost use Rattle.std.specs.Prelude.{◌≡◌, ◌&&◌, ◌∷◌, []};
-ghost use Rattle.calls.specs.Words.{is_in};
+ghost use Rattle.calls.specs.Sides.{is_in};
 ghost use Rattle.calls.specs.Effects.{moved as moving, stays as staying, enters as entering, keeps as keeping, responds_from, answers_from, tell as telling, tries_again, disconnected as disconnecting, released as releasing, completed as completing, is_unavailable, on_type};
 ghost use Rattle.reader.specs.Seen.{seen_record};
 ghost use Rattle.effects.specs.Moves.{effect_of, ruling_of};

@@ -1,6 +1,6 @@
 //! When a message is in its time.
 ghost use Rattle.std.specs.Prelude.{◌≡◌};
-ghost use Rattle.calls.specs.Words.{from_to};
+ghost use Rattle.calls.specs.Sides.{from_to};
 ghost use Rattle.calls.specs.Effects.{only as only_then};
 ghost use Rattle.effects.specs.Moves.{effect_of, ruling_of};
 

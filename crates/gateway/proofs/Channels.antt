@@ -3,7 +3,7 @@ use Rattle.std.proofs.Common.{◌≡◌, ℕ, ◌+◌, ◌<◌, true, cond, eqb,
 use Rattle.std.proofs.lemmas.Bool.{eq-eqb}
 use Rattle.std.proofs.lemmas.Bool.Decides.{nat_tests}
 use Rattle.calls.specs.declared.record.Call.{Call}
-use Rattle.calls.specs.Words.{named, holds, on_call}
+use Rattle.calls.specs.Sides.{named, holds, on_call}
 use Rattle.calls.specs.Standing.{SoundAt}
 use Rattle.calls.specs.Effects.{Effect}
 use Rattle.calls.specs.Rules.{State, Event, Outcome, Refuse, Reply, Move, TookExchange, TookSip}

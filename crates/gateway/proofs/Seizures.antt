@@ -8,7 +8,7 @@ use Rattle.messages.specs.Elements.{DigitsPart}
 use Rattle.pools.specs.States.{idle, AnyWasIdle}
 use Rattle.calls.specs.declared.record.Call.{Call}
 use Rattle.calls.specs.declared.sides.ExchangeSide.{ExchangeSide}
-use Rattle.calls.specs.Words.{stage, is_in, is_over}
+use Rattle.calls.specs.Sides.{stage, is_in, is_over}
 use Rattle.calls.specs.Standing.{is_sound, sides_agree, SoundAt}
 use Rattle.calls.specs.Effects.{Effect, Ruling, Refuses, Does, tries_again, on_type, begins, is_whole, heard_digits}
 use Rattle.calls.specs.Rules.{State, Outcome, Move, Did, TakeExchange, at, rejects, takes_any, wishes, seats, answer_of, applied}

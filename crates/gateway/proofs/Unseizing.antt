@@ -11,7 +11,7 @@ use Rattle.calls.specs.declared.record.Call.{Call}
 use Rattle.calls.specs.declared.sides.ExchangeSide.{ExchangeSide}
 use Rattle.calls.specs.declared.sides.SipSide.{SipSide}
 use Rattle.calls.specs.declared.sides.Told.{Told}
-use Rattle.calls.specs.Words.{is_in, is_uncleared, is_unreleased, is_running, is_repeated, is_invite_sent, is_cancel_sent, holds_dialogue}
+use Rattle.calls.specs.Sides.{is_in, is_uncleared, is_unreleased, is_running, is_repeated, is_invite_sent, is_cancel_sent, holds_dialogue}
 use Rattle.calls.specs.Effects.{Effect, ExchangeMove, Ruling, Refuses, Does, only, clears_exchange, ours, cause_for, is_unavailable, is_too_many, is_empty_whole, is_whole, is_nothing, meant, joined, collects, tries_again, on_type, on_timer, on_expiry, on_cancel_expiry, progresses, rings, provisional, accepts}
 use Rattle.calls.specs.Rules.{State, Choice, Found, at, at_call, another, on_leave, on_ok, on_other, uncalled, on_setup, seek, by_live_number, by_awaited_number}
 use Rattle.decisions.specs.Outcomes.{responded, turned_away, is_release_complete, wants_another}

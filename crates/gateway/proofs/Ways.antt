@@ -21,7 +21,7 @@ use Rattle.calls.proofs.Sounds.{sound_everywhere}
 use Rattle.calls.proofs.Places.{Finds, Misses, seek_tells}
 use Rattle.calls.proofs.Steps.{Lawful, lawful, live_by}
 use Rattle.messages.specs.declared.record.CallReference.{CallReference}
-use Rattle.calls.specs.Words.{is_over}
+use Rattle.calls.specs.Sides.{is_over}
 use Rattle.gateway.specs.Stands.{Possible}
 use Rattle.gateway.proofs.Channels.{Unseizing, possible}
 

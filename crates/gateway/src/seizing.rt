@@ -3,7 +3,7 @@ ghost use Rattle.std.specs.Prelude.{◌≡◌, ℕ, ◌<◌, true, None, slice_i
 ghost use Rattle.pools.specs.States.{after_any};
 ghost use Rattle.calls.specs.declared.answers.Answer.TheVariants.{Step};
 ghost use Rattle.calls.specs.declared.sides.ExchangeSide.TheVariants.{SetupSent};
-ghost use Rattle.calls.specs.Words.{is_in};
+ghost use Rattle.calls.specs.Sides.{is_in};
 ghost use Rattle.calls.specs.Effects.{tries_again};
 ghost use Rattle.calls.specs.Rules.{Did, Move, calls_out, wishes, on_setup, is_roomy};
 ghost use Rattle.call_table.specs.Keys.{Within};

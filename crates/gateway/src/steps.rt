@@ -1,7 +1,7 @@
 //! One call for each kind of event, and the two takings.
 ghost use Rattle.std.specs.Prelude.{◌≡◌, true, false, OnErr};
 ghost use Rattle.calls.specs.declared.answers.Answer.TheVariants.{Step, Exchange as took_exchange, Sip as took_sip};
-ghost use Rattle.calls.specs.Words.{is_over};
+ghost use Rattle.calls.specs.Sides.{is_over};
 ghost use Rattle.calls.specs.Effects.{on_type};
 ghost use Rattle.calls.specs.Rules.{Did, Stepped, Event, Outcome, Choice, outcome, Exchange as the_message, Invite as the_invite, Cancel, Bye, Response as the_response, Expiry as the_expiry, CancelExpiry, TakeExchange, TakeSip, at as at_place, seek, by_reference, on_message, uncalled, roomed, is_roomy, answer_of, applied};
 ghost use Rattle.call_table.specs.Keys.{Within};

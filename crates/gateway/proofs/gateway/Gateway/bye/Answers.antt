@@ -1,5 +1,5 @@
 use Rattle.std.proofs.Common.{refl}
-use Rattle.calls.specs.Words.{holds_dialogue}
+use Rattle.calls.specs.Sides.{holds_dialogue}
 use Rattle.calls.specs.Rules.{Bye, on_leave, seek}
 use Rattle.calls.proofs.Dids.{bounded}
 use Rattle.gateway.specs.Stands.{state_of}

@@ -4,7 +4,7 @@ use Rattle.calls.specs.declared.answers.Answer.{Answer}
 use Rattle.calls.specs.declared.answers.Refused.{Refused}
 use Rattle.calls.specs.declared.answers.Report.{Report}
 use Rattle.calls.specs.declared.outgoing.SipMessage.{SipMessage}
-use Rattle.calls.specs.Words.{holds_dialogue}
+use Rattle.calls.specs.Sides.{holds_dialogue}
 use Rattle.calls.specs.Rules.{Choice, Outcome, refuse, responds, on_invite, seek, by_transaction}
 use Rattle.calls.proofs.Dids.{bounded, plainly, in_room}
 use Rattle.gateway.specs.Stands.{state_of}

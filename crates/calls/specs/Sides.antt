@@ -1,5 +1,5 @@
--- The words of a call: where its two sides stand, which timer runs, what it holds and owes; and what a message is to the counts.
-use Rattle.std.specs.Prelude.{ℕ, ◌+◌, Bool, false, cond, ◌&&◌, ◌||◌, List, [], ◌∷◌, Some, None, Option, ◌==◌, nat_le}
+-- Where the two sides of a call stand, which timer runs, what it holds and owes; and what a message is to the counts.
+use Rattle.std.specs.Prelude.{ℕ, ◌+◌, Bool, false, ◌&&◌, ◌||◌, List, [], ◌∷◌, Some, None, Option, ◌==◌, if◌then◌else◌, nat_le}
 use Rattle.messages.specs.declared.record.Cause.{Cause}
 use Rattle.messages.specs.declared.record.Message.{Message}
 use Rattle.messages.specs.Types.{code_of}
@@ -7,6 +7,7 @@ use Rattle.calls.specs.declared.answers.Timer.{Timer}
 use Rattle.calls.specs.declared.outgoing.SipMessage.{SipMessage}
 use Rattle.calls.specs.declared.record.Call.{Call}
 use Rattle.calls.specs.declared.record.Digits.{Digits}
+use Rattle.calls.specs.declared.record.Origin.{Origin}
 use Rattle.calls.specs.declared.sides.ExchangeSide.{ExchangeSide}
 use Rattle.calls.specs.declared.sides.SipSide.{SipSide}
 
@@ -33,11 +34,11 @@ abbrev pub from_to : ExchangeSide → ExchangeSide → ExchangeSide → Bool
 from_to first last side = nat_le (stage first) (stage side) && nat_le (stage side) (stage last)
 
 abbrev pub is_over : ExchangeSide → Bool
-is_over side = stage side == 0
+is_over side = is_in ExchangeSide.Over side
 
 -- neither over nor being cleared: DISCONNECT can be sent
 abbrev pub is_uncleared : ExchangeSide → Bool
-is_uncleared side = nat_le 1 (stage side) && nat_le (stage side) 7
+is_uncleared side = from_to ExchangeSide.Collecting ExchangeSide.Ringing side
 
 -- neither over nor waiting for the end of a RELEASE
 abbrev pub is_unreleased : ExchangeSide → Bool
@@ -45,16 +46,14 @@ is_unreleased side = nat_le 1 (stage side) && nat_le (stage side) 8
 
 -- the timer that runs in a state
 abbrev pub timer_of : ExchangeSide → Option Timer
-timer_of ExchangeSide.Over = None
 timer_of ExchangeSide.Collecting = Some Timer.T302
-timer_of ExchangeSide.Proceeding = None
 timer_of ExchangeSide.ConnectSent = Some Timer.T313
-timer_of ExchangeSide.Up = None
 timer_of ExchangeSide.SetupSent = Some Timer.T303
 timer_of ExchangeSide.ProceedingOutwards = Some Timer.T310
 timer_of ExchangeSide.Ringing = Some Timer.T301
 timer_of (ExchangeSide.DisconnectSent cause) = Some Timer.T305
 timer_of (ExchangeSide.ReleaseSent cause repeated) = Some Timer.T308
+timer_of _ = None
 
 -- the last two digits of a timer's name, by which timers are compared
 abbrev pub timer_name : Timer → ℕ
@@ -76,29 +75,14 @@ is_running t side = is_timer t (timer_of side)
 
 -- the cause that went out with the DISCONNECT or the RELEASE
 abbrev pub sent_cause : ExchangeSide → Option Cause
-sent_cause ExchangeSide.Over = None
-sent_cause ExchangeSide.Collecting = None
-sent_cause ExchangeSide.Proceeding = None
-sent_cause ExchangeSide.ConnectSent = None
-sent_cause ExchangeSide.Up = None
-sent_cause ExchangeSide.SetupSent = None
-sent_cause ExchangeSide.ProceedingOutwards = None
-sent_cause ExchangeSide.Ringing = None
 sent_cause (ExchangeSide.DisconnectSent cause) = Some cause
 sent_cause (ExchangeSide.ReleaseSent cause repeated) = cause
+sent_cause _ = None
 
 -- the RELEASE went out twice
 abbrev pub is_repeated : ExchangeSide → Bool
-is_repeated ExchangeSide.Over = false
-is_repeated ExchangeSide.Collecting = false
-is_repeated ExchangeSide.Proceeding = false
-is_repeated ExchangeSide.ConnectSent = false
-is_repeated ExchangeSide.Up = false
-is_repeated ExchangeSide.SetupSent = false
-is_repeated ExchangeSide.ProceedingOutwards = false
-is_repeated ExchangeSide.Ringing = false
-is_repeated (ExchangeSide.DisconnectSent cause) = false
 is_repeated (ExchangeSide.ReleaseSent cause repeated) = repeated
+is_repeated _ = false
 
 -- ---------------------------------------------------------------- the SIP side
 -- the states by number
@@ -127,44 +111,41 @@ awaits_response side = is_invite_sent side || is_cancel_sent side
 
 -- the INVITE with this transaction came and has no final response yet
 abbrev pub is_unanswered : ℕ → SipSide → Bool
-is_unanswered t SipSide.None = false
-is_unanswered t (SipSide.InviteSent told) = false
 is_unanswered t (SipSide.InviteUnanswered x d) = x == t
-is_unanswered t (SipSide.Up d) = false
-is_unanswered t SipSide.CancelSent = false
+is_unanswered t _ = false
 
 -- up on this dialogue
 abbrev pub is_up_on : ℕ → SipSide → Bool
-is_up_on d SipSide.None = false
-is_up_on d (SipSide.InviteSent told) = false
-is_up_on d (SipSide.InviteUnanswered t x) = false
 is_up_on d (SipSide.Up x) = x == d
-is_up_on d SipSide.CancelSent = false
+is_up_on d _ = false
 
 -- a dialogue is held from the INVITE that came, or from the 200, on
 abbrev pub is_held_by : ℕ → SipSide → Bool
-is_held_by d SipSide.None = false
-is_held_by d (SipSide.InviteSent told) = false
 is_held_by d (SipSide.InviteUnanswered t x) = x == d
 is_held_by d (SipSide.Up x) = x == d
-is_held_by d SipSide.CancelSent = false
+is_held_by d _ = false
 
 -- ---------------------------------------------------------------- a call
 -- 1 or 0
 abbrev pub one_if : Bool → ℕ
-one_if b = cond b 1 0
+one_if b = if b then 1 else 0
 
--- the optional channel is c
-abbrev pub is_named : ℕ → Option ℕ → Bool
-is_named c None = false
-is_named c (Some x) = c == x
+-- the optional number is n
+abbrev pub equals_some : ℕ → Option ℕ → Bool
+equals_some n None = false
+equals_some n (Some x) = n == x
 
 abbrev pub named : ℕ → Option ℕ → ℕ
-named c o = one_if (is_named c o)
+named c o = one_if (equals_some c o)
+
+-- the number of a call that a SETUP made
+abbrev pub number_of : Origin → Option ℕ
+number_of (Origin.Exchange n) = Some n
+number_of Origin.Sip = None
 
 -- the channel of a call: its own while its exchange side is not over, else none
 abbrev pub channel_from : ExchangeSide → ℕ → Option ℕ
-channel_from side channel = cond (is_over side) None (Some channel)
+channel_from side channel = if is_over side then None else Some channel
 
 abbrev pub held_channel : Call → Option ℕ
 held_channel k = channel_from k.exchange k.channel
@@ -213,22 +194,16 @@ abbrev pub is_final : ℕ → Bool
 is_final s = nat_le 200 s && nat_le s 699
 
 abbrev pub final : ℕ → SipMessage → ℕ
-final t (SipMessage.Invite n ds) = 0
-final t (SipMessage.Cancel n) = 0
-final t (SipMessage.Ack n d) = 0
-final t (SipMessage.Bye d) = 0
 final t (SipMessage.Response x s) = one_if (is_final s && x == t)
+final t _ = 0
 
 abbrev pub finals_in : ℕ → List SipMessage → ℕ
 finals_in t [] = 0
 finals_in t (m ∷ ms) = final t m + finals_in t ms
 
 abbrev pub bye : ℕ → SipMessage → Bool
-bye d (SipMessage.Invite n ds) = false
-bye d (SipMessage.Cancel n) = false
-bye d (SipMessage.Ack n x) = false
 bye d (SipMessage.Bye x) = x == d
-bye d (SipMessage.Response x s) = false
+bye d _ = false
 
 abbrev pub bye_in : ℕ → List SipMessage → Bool
 bye_in d [] = false
