@@ -6,6 +6,7 @@ use Rattle.messages.specs.declared.kind.MessageType.{MessageType}
 use Rattle.messages.specs.declared.record.Cause.{Cause}
 use Rattle.messages.specs.declared.record.Message.{Message}
 use Rattle.messages.specs.Elements.{DigitsPart}
+use Rattle.causes.specs.Names
 use Rattle.calls.specs.declared.answers.Timer.{Timer}
 use Rattle.calls.specs.declared.outgoing.SipMessage.{SipMessage}
 use Rattle.calls.specs.declared.record.Call.{Call}
@@ -31,7 +32,7 @@ Keeps pool k ev (Err g) = Unit {0}
 Keeps pool k ev (Ok e) = Balanced pool (Some k) ev e
 
 -- the status for a clearing message is one of a final response that refuses
-status_final : (v : Option Cause) → (300 ≤ status_for v) × (status_for v ≤ 699)
+status_final : (v : Option Cause) → (Names.first_failure ≤ status_for v) × (status_for v ≤ Names.last_status)
 status_final v = final_failure (counted v).value (counted v).location
 
 unseized : (pool : States) (c : ℕ) → named c None ≡ 1 → idle (pool c) ≡ true
@@ -57,7 +58,7 @@ module _ (pool : States) (ev : Brought) (u : Uninvited ev) (q : Quiet ev) (k : C
   cleared_both : (v : Cause) (s : ℕ) → sides_agree (clears_exchange k v).side (clears_sip k s).side ≡ true
   cleared_both v s = grind (arith, nat_tests)
 
-  gives_up_lem : (s : ℕ) → 300 ≤ s → s ≤ 699 → Balanced pool (Some k) ev (gives_up k s)
+  gives_up_lem : (s : ℕ) → Names.first_failure ≤ s → s ≤ Names.last_status → Balanced pool (Some k) ev (gives_up k s)
   gives_up_lem s lo hi = plainly k.digits _ _ (cleared_seizes_none _) (clears_law k _) (clears_sip_lem ev q k.origin s lo hi k.sip) (cleared_both _ s)
 
   -- while digits are collected
@@ -129,7 +130,7 @@ module _ (pool : States) (ev : Brought) (u : Uninvited ev) (q : Quiet ev) (k : C
     goes_on l ms mute h n = plainly k.digits _ _ refl (enters_law k l ms mute live h) (keeps_law ev q k.sip) (past_fits l h (no_invite n))
 
     -- the exchange side ends, and SIP is cleared
-    ends_clear : (ms : List (Message Digits)) (s : ℕ) → Mute ms → 300 ≤ s → s ≤ 699 → Balanced pool (Some k) ev (moved k (ends k ms) (clears_sip k s))
+    ends_clear : (ms : List (Message Digits)) (s : ℕ) → Mute ms → Names.first_failure ≤ s → s ≤ Names.last_status → Balanced pool (Some k) ev (moved k (ends k ms) (clears_sip k s))
     ends_clear ms s mute lo hi = plainly k.digits _ _ refl (ends_law k ms mute live) (clears_sip_lem ev q k.origin s lo hi k.sip) (cleared_fits ExchangeSide.Over s (λ e. omega arith))
 
     ends_keep : 2 < stage k.exchange → Balanced pool (Some k) ev (moved k (ends k []) (keeps k))

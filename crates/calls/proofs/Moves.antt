@@ -4,6 +4,7 @@ use Rattle.std.proofs.lemmas.Bool.Decides.{nat_tests}
 use Rattle.messages.specs.declared.record.CallReference.{CallReference}
 use Rattle.messages.specs.declared.record.Cause.{Cause}
 use Rattle.messages.specs.declared.record.Message.{Message}
+use Rattle.causes.specs.Names
 use Rattle.calls.specs.declared.record.Call.{Call}
 use Rattle.calls.specs.declared.record.Digits.{Digits}
 use Rattle.calls.specs.declared.record.Origin.{Origin}
@@ -63,12 +64,12 @@ Quiet ev = (d : ℕ) → is_ok_on d ev ≡ false
 pub keeps_law : (ev : Brought) → Quiet ev → (g : SipSide) → SipLaw ev g (becomes g [])
 keeps_law ev q g = record { invites = λ t. omega arith; talking = λ d a b. omega arith; opening = λ d e a. let z = q d in grind arith; sending = λ last d l e. grind arith; linked = λ last l. l }
 
-pub clears_sip_lem : (ev : Brought) → Quiet ev → (origin : Origin) (s : ℕ) → 300 ≤ s → s ≤ 699 → (g : SipSide) → SipLaw ev g (clears_from origin s g)
+pub clears_sip_lem : (ev : Brought) → Quiet ev → (origin : Origin) (s : ℕ) → Names.first_failure ≤ s → s ≤ Names.last_status → (g : SipSide) → SipLaw ev g (clears_from origin s g)
 clears_sip_lem ev q origin s lo hi g =
     record { invites = λ t. grind (arith, nat_tests); talking = λ d a b. grind (arith, nat_tests); opening = λ d e a. let z = q d in grind (arith, nat_tests); sending = λ last d l e. grind (arith, nat_tests); linked = λ last l. grind (arith, nat_tests) }
 
 -- a provisional response
-pub tells_sip : (ev : Brought) → Quiet ev → (s : ℕ) → s < 200 → (g : SipSide) → SipLaw ev g (responds s g)
+pub tells_sip : (ev : Brought) → Quiet ev → (s : ℕ) → s < Names.first_final → (g : SipSide) → SipLaw ev g (responds s g)
 tells_sip ev q s lo g =
     record { invites = λ t. grind (arith, nat_tests); talking = λ d a b. grind (arith, nat_tests); opening = λ d e a. let z = q d in grind (arith, nat_tests); sending = λ last d l e. grind (arith, nat_tests); linked = λ last l. grind (arith, nat_tests) }
 

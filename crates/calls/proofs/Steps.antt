@@ -7,6 +7,7 @@ use Rattle.messages.specs.declared.record.CallReference.{CallReference}
 use Rattle.messages.specs.declared.record.Channel.{Channel}
 use Rattle.messages.specs.declared.record.Message.{Message}
 use Rattle.messages.specs.Elements.{DigitsPart}
+use Rattle.causes.specs.Names
 use Rattle.calls.specs.declared.outgoing.SipMessage.{SipMessage}
 use Rattle.calls.specs.declared.record.Call.{Call}
 use Rattle.calls.specs.declared.record.Digits.{Digits}
@@ -19,7 +20,7 @@ use Rattle.messages.specs.Types.{is_setup}
 use Rattle.pools.specs.States.{AnyWasIdle}
 use Rattle.calls.specs.Sides.{is_over, awaits_response, owes, holds_dialogue, sum_of, one_if, named}
 use Rattle.calls.specs.Effects.{Effect, called_digits, is_whole, misdialled, cause_for, on_expiry, on_cancel_expiry, ack_and_bye, leaves, begins_proceeding, begins_collecting, begins, invited}
-use Rattle.calls.specs.Rules.{Event, Exchange, Invite, Cancel, Bye, Response, Expiry, CancelExpiry, TakeExchange, TakeSip, State, Choice, Fair, FreePlace, Outcome, Refuse, Reply, Change, TookExchange, TookSip, seek, by_reference, by_number, by_live_number, by_awaited_number, by_transaction, at, at_call, rejects, granted, seated, admitted, on_setup, turned_away, uncalled, on_message, replies, calls_out, dialling_status, unless_answered, on_invite, another, on_ok, accepted, on_other, on_response, is_roomy, roomed, on_octets, is_status, outcome}
+use Rattle.calls.specs.Rules.{Event, Exchange, Invite, Cancel, Bye, Response, Expiry, CancelExpiry, TakeExchange, TakeSip, State, Choice, Fair, FreePlace, Outcome, Refuse, Reply, Change, TookExchange, TookSip, seek, by_reference, by_number, by_live_number, by_awaited_number, by_transaction, at, at_call, rejects, granted, seated, admitted, on_setup, turned_away, uncalled, on_message, replies, calls_out, dialling_status, unless_answered, on_invite, another, on_ok, accepted, on_other, is_other_success, on_response, is_roomy, roomed, on_octets, is_status, outcome}
 use Rattle.calls.specs.Laws.{Brought, ASetup, AnInvite, AnOk, ABye, NoneOfThese, brought_by_octets, brought_by, setup_count, invite_count}
 use Rattle.calls.proofs.Moves.{Quiet, Mute}
 use Rattle.calls.specs.Standing.{Everywhere, sides_agree, SoundAt}
@@ -50,7 +51,7 @@ spoken_balanced : (pool : States) (ev : Brought) → Uninvited ev → Quiet ev �
 spoken_balanced pool ev u q ms mute =
     record { channels = λ c. refl; idle = λ c e. absurd (omega arith); invites = λ t. omega (arith, u t); connects = λ r. omega (arith, mute r); talking = λ d x y. omega arith; opening = λ d x y. absurd (let z = q d in grind arith); sending = λ last d x y. absurd (grind arith); linked = λ last x y. tt; sound = tt; present = tt }
 
-answered_balanced : (pool : States) (t d s : ℕ) → 300 ≤ s → s ≤ 699 → Balanced pool None (AnInvite t d) (spoken [] (SipMessage.Response t s ∷ []))
+answered_balanced : (pool : States) (t d s : ℕ) → Names.first_failure ≤ s → s ≤ Names.last_status → Balanced pool None (AnInvite t d) (spoken [] (SipMessage.Response t s ∷ []))
 answered_balanced pool t d s lo hi =
     record { channels = λ c. refl; idle = λ c e. absurd (omega arith); invites = λ t. grind (arith, nat_tests); connects = λ r. omega arith; talking = λ d x y. omega arith; opening = λ d x y. absurd (grind arith); sending = λ last d x y. absurd (grind (arith, nat_tests)); linked = λ last x y. tt; sound = tt; present = tt }
 
@@ -176,7 +177,7 @@ module _ (st : State) (s : Everywhere SoundAt st.table) where
 
   module _ (ch : Choice) (fair : Fair st ch) (t d : ℕ) (xs : List ℕ) where
     module _ (f : Fresh st (AnInvite t d)) where
-      replies_lawful : (v : ℕ) → 300 ≤ v → v ≤ 699 → Lawful st (AnInvite t d) (replies t v)
+      replies_lawful : (v : ℕ) → Names.first_failure ≤ v → v ≤ Names.last_status → Lawful st (AnInvite t d) (replies t v)
       replies_lawful v lo hi = (f, answered_balanced st.pool t d v lo hi)
 
       calls_out_lawful : (place pick : Option ℕ) → FreePlace st.table place → AnyWasIdle pick st.pool → Lawful st (AnInvite t d) (calls_out t d xs place pick)
@@ -185,12 +186,12 @@ module _ (st : State) (s : Everywhere SoundAt st.table) where
       calls_out_lawful None pick p h = replies_lawful _ (omega arith) (omega arith)
 
       -- the statuses for digits that make no call are final
-      status_final : (a b : Bool) (x y s : ℕ) → 300 ≤ x → x ≤ 699 → 300 ≤ y → y ≤ 699 → cond a (Some x) (cond b None (Some y)) ≡ Some s → (300 ≤ s) × (s ≤ 699)
+      status_final : (a b : Bool) (x y s : ℕ) → Names.first_failure ≤ x → x ≤ Names.last_status → Names.first_failure ≤ y → y ≤ Names.last_status → cond a (Some x) (cond b None (Some y)) ≡ Some s → (Names.first_failure ≤ s) × (s ≤ Names.last_status)
       status_final true b x y s lx hx ly hy e = let z : x ≡ s = cc in (omega (arith, z), omega (arith, z))
       status_final false true x y s lx hx ly hy e = absurd (let z : ◌≡◌ {A = ℕ} 0 1 = cc in omega arith)
       status_final false false x y s lx hx ly hy e = let z : y ≡ s = cc in (omega (arith, z), omega (arith, z))
 
-      dialled_lawful : (o : Option ℕ) → ((s : ℕ) → o ≡ Some s → (300 ≤ s) × (s ≤ 699)) → Lawful st (AnInvite t d) (unless_answered t o (calls_out t d xs ch.place ch.pick))
+      dialled_lawful : (o : Option ℕ) → ((s : ℕ) → o ≡ Some s → (Names.first_failure ≤ s) × (s ≤ Names.last_status)) → Lawful st (AnInvite t d) (unless_answered t o (calls_out t d xs ch.place ch.pick))
       dialled_lawful None h = calls_out_lawful ch.place ch.pick fair.place fair.pick
       dialled_lawful (Some s) h = let w = h s refl in replies_lawful s w.0 w.1
 
@@ -210,7 +211,7 @@ module _ (st : State) (s : Everywhere SoundAt st.table) where
 
     other_keeps : (v : ℕ) (media : Bool) (k : Call) → sides_agree k.exchange k.sip ≡ true → by_awaited_number n k ≡ true → Balanced st.pool (Some k) NoneOfThese (on_other v media k)
     other_keeps v media k good h =
-        cond_both (leb 300 v) _ _ (Balanced st.pool (Some k) NoneOfThese)
+        cond_both (leb Names.first_failure v) _ _ (Balanced st.pool (Some k) NoneOfThese)
         (λ _. on_fail st.pool NoneOfThese (λ t. refl) (λ d. refl) k good (cause_for v) (and_parts (by_number n k) (awaits_response k.sip) h).1)
         (λ _. on_provisional st.pool NoneOfThese (λ t. refl) (λ d. refl) k good v media k.sip refl)
 
@@ -220,10 +221,10 @@ module _ (st : State) (s : Everywhere SoundAt st.table) where
         mine : Option Found
         mine = seek (by_live_number n) st.table
 
-        by_status : (is_ok : Bool) → Lawful st (cond is_ok (AnOk d) NoneOfThese) (cond is_ok (accepted n d (seek (holds_dialogue d) st.table) mine) (cond (leb 201 v && leb v 299) (Reply [] (SipMessage.Ack n d ∷ [])) (at_call (λ k. Ok (on_other v media k)) (seek (by_awaited_number n) st.table))))
+        by_status : (is_ok : Bool) → Lawful st (cond is_ok (AnOk d) NoneOfThese) (cond is_ok (accepted n d (seek (holds_dialogue d) st.table) mine) (cond (is_other_success v) (Reply [] (SipMessage.Ack n d ∷ [])) (at_call (λ k. Ok (on_other v media k)) (seek (by_awaited_number n) st.table))))
         by_status true = cond_both (another (seek (holds_dialogue d) st.table) mine) _ _ (Lawful st (AnOk d)) (λ _. tt) (λ _. ok_lawful mine (seek_tells (by_live_number n) st.table))
         by_status false =
-            cond_both (leb 201 v && leb v 299) _ _ (Lawful st NoneOfThese) (λ _. (fresh st NoneOfThese (λ t. refl), acked_balanced st.pool n d))
+            cond_both (is_other_success v) _ _ (Lawful st NoneOfThese) (λ _. (fresh st NoneOfThese (λ t. refl), acked_balanced st.pool n d))
             (λ _. called st s NoneOfThese (λ t. refl) (by_awaited_number n) (λ k. Ok (on_other v media k)) (other_keeps v media) _ (seek_tells (by_awaited_number n) st.table))
 
   roomed_lawful : (ev : Brought) (o : Outcome) → Lawful st ev o → Lawful st ev (roomed st o)

@@ -221,12 +221,16 @@ accepted n d holder mine = if another holder mine then refuse Ground.DialogueInU
 
 -- a provisional response, or a final one that refuses
 abbrev pub on_other : ℕ → Bool → Call → Effect
-on_other s media k = if nat_le 300 s then fails k (cause_for s) else provisional k s media k.sip
+on_other s media k = if nat_le Names.first_failure s then fails k (cause_for s) else provisional k s media k.sip
+
+-- a 2xx that is no 200: acknowledged, and no more
+abbrev pub is_other_success : ℕ → Bool
+is_other_success s = nat_le 201 s && nat_le s 299
 
 abbrev pub on_response : List (Option Call) → ℕ → ℕ → ℕ → Bool → Outcome
 on_response table n s d media =
     if s == Names.ok then accepted n d (seek (holds_dialogue d) table) (seek (by_live_number n) table)
-    else (if nat_le 201 s && nat_le s 299 then Reply [] (SipMessage.Ack n d ∷ [])
+    else (if is_other_success s then Reply [] (SipMessage.Ack n d ∷ [])
     else at_call (λ k. Ok (on_other s media k)) (seek (by_awaited_number n) table))
 
 -- ---------------------------------------------------------------- every event
@@ -246,7 +250,7 @@ on_octets st ch (Ok m) = roomed st (on_message st ch m (seek (by_reference m.ref
 on_octets st ch (Err x) = Refuse (placed x)
 
 abbrev pub is_status : ℕ → Bool
-is_status s = nat_le 100 s && nat_le s 699
+is_status s = nat_le Names.first_status s && nat_le s Names.last_status
 
 -- what the rules make of an event, given what is left open
 abbrev pub outcome : State → Choice → Event → Outcome

@@ -3,6 +3,7 @@ use Rattle.std.specs.Prelude.{ℕ, ◌+◌, Bool, false, ◌&&◌, ◌||◌, Lis
 use Rattle.messages.specs.declared.record.Cause.{Cause}
 use Rattle.messages.specs.declared.record.Message.{Message}
 use Rattle.messages.specs.Types.{code_of}
+use Rattle.causes.specs.Names
 use Rattle.calls.specs.declared.answers.Timer.{Timer}
 use Rattle.calls.specs.declared.outgoing.SipMessage.{SipMessage}
 use Rattle.calls.specs.declared.record.Call.{Call}
@@ -189,9 +190,9 @@ abbrev pub connects_in : ℕ → List (Message Digits) → ℕ
 connects_in r [] = 0
 connects_in r (m ∷ ms) = connects r m + connects_in r ms
 
--- final responses are those from 200 to 699
+-- a final response, provisional ones are below it
 abbrev pub is_final : ℕ → Bool
-is_final s = nat_le 200 s && nat_le s 699
+is_final s = nat_le Names.first_final s && nat_le s Names.last_status
 
 abbrev pub final : ℕ → SipMessage → ℕ
 final t (SipMessage.Response x s) = one_if (is_final s && x == t)

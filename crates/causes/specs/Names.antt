@@ -38,6 +38,19 @@ abbrev pub remote_private_network : ℕ
 remote_private_network = 5
 
 -- ---------------------------------------------------------------- statuses
+-- responses have statuses from the first to the last; final ones begin at 200, those that refuse at 300
+abbrev pub first_status : ℕ
+first_status = 100
+
+abbrev pub first_final : ℕ
+first_final = 200
+
+abbrev pub first_failure : ℕ
+first_failure = 300
+
+abbrev pub last_status : ℕ
+last_status = 699
+
 abbrev pub ringing : ℕ
 ringing = 180
 

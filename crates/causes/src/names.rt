@@ -37,6 +37,15 @@ pub const USER: u8 = 0;
 /// Location 5: the private network that serves the remote user.
 pub const REMOTE_PRIVATE_NETWORK: u8 = 5;
 
+/// The first status of a response.
+pub const FIRST_STATUS: u16 = 100;
+
+/// Final responses from here on refuse.
+pub const FIRST_FAILURE: u16 = 300;
+
+/// The last status of a response.
+pub const LAST_STATUS: u16 = 699;
+
 /// Status 180.
 pub const RINGING: u16 = 180;
 
