@@ -1,9 +1,9 @@
 //! The side of SIP, and the call as a whole.
 ghost use Rattle.std.specs.Prelude.{◌≡◌};
-ghost use Rattle.calls.specs.Sides.{is_no_sip, awaits_response, is_unanswered, is_held_by, is_gone};
+ghost use Rattle.calls.specs.Sides.{is_no_sip, awaits_response, is_unanswered, is_held_by, number_of, is_gone};
 
 use crate::exchange::is_over;
-use calls::{Call, SipSide};
+use calls::{Call, Origin, SipSide};
 
 /// Over, or not begun.
 pub fn is_no_sip(side: SipSide) -> bool
@@ -37,6 +37,16 @@ pub fn is_held_by(dialogue: u64, side: SipSide) -> bool
         }
         | SipSide::Up { dialogue: known } => known == dialogue,
         _ => false,
+    }
+}
+
+/// The number of the INVITE that goes out, of a call that a SETUP made.
+pub fn number_of(origin: Origin) -> Option<u64>
+    ensures number_of_a_call_from_the_exchange { result ≡ number_of origin }
+{
+    match origin {
+        Origin::Exchange { number } => Some(number),
+        Origin::Sip => None,
     }
 }
 

@@ -7,11 +7,10 @@ use Rattle.std.specs.List.{FoldsTo, enumerate_from}
 use Rattle.std.specs.Fn.{Called}
 use denote.Param.Members.{Mut}
 use Rattle.calls.specs.declared.record.Call.{Call}
+use Rattle.calls.specs.declared.record.Found.{Found}
 use Rattle.calls.specs.Rules.{seek, seek_here, later}
-use Rattle.calls.specs.Rules as rules
 use Rattle.calls.proofs.Places.{Misses, Finds, seek_tells}
-use Rattle.call_table.specs.Keys.{found_of, Within}
-use Rattle.call_table.specs.declared.table.Found.{Found}
+use Rattle.call_table.specs.Keys.{Within}
 
 abbrev pub first_of : {C : Type 0} → Option C → Option C → Option C
 first_of None later = later
@@ -71,35 +70,35 @@ matched p i None = None
 matched p i (Some k) = cond (p k) (Some (record { place = i; call = k })) None
 
 -- what is found from place n on
-abbrev from_place : ℕ → Option rules.Found → Option rules.Found
+abbrev from_place : ℕ → Option Found → Option Found
 from_place n None = None
 from_place n (Some f) = Some (record { place = n + f.place; call = f.call })
 
-abbrev at : ℕ → Call → Option rules.Found
+abbrev at : ℕ → Call → Option Found
 at i k = Some (record { place = i; call = k })
 
-one_on : (n : ℕ) (r : Option rules.Found) → from_place (n + 1) r ≡ from_place n (later r)
+one_on : (n : ℕ) (r : Option Found) → from_place (n + 1) r ≡ from_place n (later r)
 one_on n None = refl
 one_on n (Some f) = ap (λ i. at i f.call) (omega arith)
 
-from_first : (r : Option rules.Found) → from_place 0 r ≡ r
+from_first : (r : Option Found) → from_place 0 r ≡ r
 from_first None = refl
 from_first (Some f) = ap (λ i. at i f.call) (omega arith)
 
-met : (b : Bool) (n : ℕ) (k : Call) (rest : Option Found) (r : Option rules.Found) → found_of rest ≡ from_place (n + 1) r
-    → found_of (first_of (cond b (Some (record { place = n; call = k })) None) rest) ≡ from_place n (cond b (Some (record { place = 0; call = k })) (later r))
+met : (b : Bool) (n : ℕ) (k : Call) (rest : Option Found) (r : Option Found) → rest ≡ from_place (n + 1) r
+    → first_of (cond b (Some (record { place = n; call = k })) None) rest ≡ from_place n (cond b (Some (record { place = 0; call = k })) (later r))
 met true n k rest r e = ap (λ i. at i k) (omega arith)
 met false n k rest r e = e ∙ one_on n r
 
-seeks_from : (p : Call → Bool) (os : List (Option Call)) (n : ℕ) → found_of (first_answer (λ q. matched p q.0 q.1) (enumerate_from n os)) ≡ from_place n (seek p os)
+seeks_from : (p : Call → Bool) (os : List (Option Call)) (n : ℕ) → first_answer (λ q. matched p q.0 q.1) (enumerate_from n os) ≡ from_place n (seek p os)
 seeks_from p [] n = refl
 seeks_from p (None ∷ os) n = seeks_from p os (n + 1) ∙ one_on n (seek p os)
 seeks_from p (Some k ∷ os) n = met (p k) n k _ _ (seeks_from p os (n + 1))
 
-pub seeks : (p : Call → Bool) (os : List (Option Call)) → found_of (first_answer (λ q. matched p q.0 q.1) (enumerate_from 0 os)) ≡ seek p os
+pub seeks : (p : Call → Bool) (os : List (Option Call)) → first_answer (λ q. matched p q.0 q.1) (enumerate_from 0 os) ≡ seek p os
 seeks p os = seeks_from p os 0 ∙ from_first (seek p os)
 
-pub within : (p : Call → Bool) (os : List (Option Call)) (r : Option Found) → length os ≡ 64 → found_of r ≡ seek p os → Within r os
+pub within : (p : Call → Bool) (os : List (Option Call)) (r : Option Found) → length os ≡ 64 → r ≡ seek p os → Within r os
 within p os None l e = tt
 within p os (Some f) l e =
     let found = subst (λ o. MatchOption o (Misses p os) (Finds p os)) (sym e) (seek_tells p os) in

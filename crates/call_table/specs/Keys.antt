@@ -1,11 +1,10 @@
 -- The ways of looking for a call, and what is found.
 use Rattle.std.specs.Prelude.{◌≡◌, ◌<◌, Bool, List, Some, None, Option, slice_index_or}
 use Rattle.calls.specs.declared.record.Call.{Call}
+use Rattle.calls.specs.declared.record.Found.{Found}
 use Rattle.calls.specs.Sides.{holds_dialogue}
 use Rattle.calls.specs.Rules.{by_reference, by_transaction, by_number, by_live_number, by_awaited_number}
-use Rattle.calls.specs.Rules as rules
 use Rattle.call_table.specs.declared.key.Key.{Key}
-use Rattle.call_table.specs.declared.table.Found.{Found}
 
 -- the calls that a key looks for
 abbrev pub keyed : Key → Call → Bool
@@ -15,11 +14,6 @@ keyed (Key.Dialogue d) = holds_dialogue d
 keyed (Key.Number n) = by_number n
 keyed (Key.LiveNumber n) = by_live_number n
 keyed (Key.AwaitedNumber n) = by_awaited_number n
-
--- what was found, as the rules say it
-abbrev pub found_of : Option Found → Option rules.Found
-found_of None = None
-found_of (Some f) = Some (record { place = f.place; call = f.call })
 
 -- what was found stands at its place, one of the 64
 abbrev pub Within : Option Found → List (Option Call) → Type 0

@@ -1,14 +1,14 @@
 -- The 64 places of the table of calls: the channels that they hold, and how tokens go in and out.
 use Rattle.std.specs.Prelude.{◌≡◌, ℕ, Bool, true, false, cond, not, ◌&&◌, List, is_some, Some, None, Ok, Err, Option, Result, ◌==◌, nat_lt, slice_index_or, slice_set}
 use Rattle.calls.specs.declared.record.Call.{Call}
-use Rattle.calls.specs.Sides.{is_over}
+use Rattle.calls.specs.Sides.{is_over, held_channel}
 use Rattle.call_table.specs.Tokens.{token_of}
 use Rattle.call_table.specs.declared.token.Token.{Token}
 
 -- the channel that a place holds: its call's, while the exchange side is not over
 abbrev pub holding : Option Call → Option ℕ
 holding None = None
-holding (Some call) = cond (is_over call.exchange) None (Some call.channel)
+holding (Some call) = held_channel call
 
 -- the channel that the place of this number holds: none from place 64 on
 abbrev pub held : List (Option Call) → ℕ → Option ℕ

@@ -1,9 +1,9 @@
 ghost use Rattle.std.specs.Prelude.{◌≡◌};
 ghost use Rattle.call_table.specs.Keys.{keyed};
 
+use call_states::{awaits_response, is_held_by, is_no_sip, is_over, is_unanswered, number_of};
 use calls::Call;
 use messages::CallReference;
-use call_states::{awaits_response, is_held_by, is_no_sip, is_over, is_unanswered};
 
 /// What a call is looked for by.
 // Stays an enum: with a closure in its place `find` would promise only over every test that agrees with the closure.
@@ -31,8 +31,9 @@ pub(crate) fn is_keyed(key: Key, call: Call) -> bool
         Key::Reference(reference) => !is_over(call.exchange) && call.reference == reference,
         Key::Transaction(transaction) => is_unanswered(transaction, call.sip),
         Key::Dialogue(dialogue) => is_held_by(dialogue, call.sip),
-        Key::Number(number) => call.number == Some(number),
-        Key::LiveNumber(number) => call.number == Some(number) && !is_no_sip(call.sip),
-        Key::AwaitedNumber(number) => call.number == Some(number) && awaits_response(call.sip),
+        Key::Number(number) => number_of(call.origin) == Some(number),
+        Key::LiveNumber(number) => number_of(call.origin) == Some(number) && !is_no_sip(call.sip),
+        Key::AwaitedNumber(number) => number_of(call.origin) == Some(number)
+            && awaits_response(call.sip),
     }
 }

@@ -8,6 +8,6 @@ mod token;
 mod trunk;
 
 pub use key::Key;
-pub use table::{Found, Table};
+pub use table::Table;
 pub use token::Token;
 pub use trunk::Trunk;

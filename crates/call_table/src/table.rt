@@ -1,20 +1,13 @@
 ghost use Rattle.std.specs.Prelude.{◌≡◌, ◌<◌, length, replicate, Some, None, slice_index_or, slice_set};
 ghost use Rattle.calls.specs.Rules.{seek, FreePlace};
-ghost use Rattle.call_table.specs.Keys.{keyed, found_of, Within};
+ghost use Rattle.call_table.specs.Keys.{keyed, Within};
 ghost use Rattle.call_table.specs.Tokens.{token_of};
 ghost use Rattle.call_table.specs.Records.{holding, held, is_holding, admits, answered, after_entering, Enters, left};
 
 use crate::key::{Key, is_keyed};
 use crate::token::Token;
-use calls::Call;
 use call_states::is_over;
-
-/// A call that was looked for, and its place in the table.
-#[derive(Clone, Copy, PartialEq, Eq, Debug)]
-pub struct Found {
-    pub place: usize,
-    pub call: Call,
-}
+use calls::{Call, Found};
 
 fn held_channel(slot: Option<Call>) -> Option<u8>
     ensures answers_the_channel_held { result ≡ holding slot }
@@ -47,7 +40,7 @@ impl Table {
 
     /// The first call that the key looks for.
     pub fn find(&self, key: Key) -> Option<Found>
-        ensures the_first_that_matches_or_none { found_of result ≡ seek (keyed key) self.now.places }
+        ensures the_first_that_matches_or_none { result ≡ seek (keyed key) self.now.places }
         ensures stands_at_its_place { Within result self.now.places }
     {
         self.places.iter().enumerate().find_map(|(place, slot)| {

@@ -1,29 +1,26 @@
 //! Messages and timers of the exchange.
 ghost use Rattle.std.specs.Prelude.{◌≡◌, None};
 ghost use Rattle.calls.specs.Effects.{on_type, on_expiry};
-ghost use Rattle.calls.specs.Rules.{seek, by_reference, at as at_place, at_call};
+ghost use Rattle.calls.specs.Rules.{seek, by_reference, at, at_call, turned_away, busy_cause};
 ghost use Rattle.reader.specs.Seen.{seen_record};
-ghost use Rattle.decisions.specs.Outcomes.{outcome_of, turned_away, wants_another, busy_cause};
+ghost use Rattle.decisions.specs.Outcomes.{outcome_of, wants_another};
 
-use crate::action::Action;
-use calls::{Call, Timer};
-use call_table::{Found, Key, Table};
+use crate::outcome::Outcome;
+use call_table::{Key, Table};
+use calls::{Call, Found, Timer};
+use causes::{CHANNEL_UNAVAILABLE, INVALID_CALL_REFERENCE, NO_CHANNEL_AVAILABLE};
+use effects::rejection;
 use exchange_rules::{asks_for_another, on_expiry, on_message};
 use messages::{CallReference, Channel, Message, MessageType, Part};
-use effects::{CHANNEL_UNAVAILABLE, rejection};
 use queues::few::Few;
 use refusals::Ground;
 
-const NO_CHANNEL_AVAILABLE: u8 = 34;
-
-const INVALID_CALL_REFERENCE: u8 = 81;
-
 /// A message at the call that it found, where it asks for no other channel.
-pub fn on_heard(full: usize, message: Message<Part<'_>>, found: Found) -> Result<Action, Ground>
-    ensures by_type_and_state { outcome_of result ≡ at_place found.place (on_type full None (seen_record message.entry) found.call message.entry.kind) }
+pub fn at_its_call(full: usize, message: Message<Part<'_>>, found: Found) -> Result<Outcome, Ground>
+    ensures by_type_and_state { outcome_of result ≡ at found.place (on_type full None (seen_record message.entry) found.call message.entry.kind) }
 {
     let effect = on_message(full, None, message, found.call)?;
-    Ok(Action::at(found, effect))
+    Ok(Outcome::at(found, effect))
 }
 
 /// Whether a message asks for another channel for the gateway's own SETUP.
@@ -35,13 +32,13 @@ pub fn wants_another(message: Message<Part<'_>>, call: Call) -> bool
 }
 
 /// A message other than SETUP that found no call.
-pub fn turned_away(message: Message<Part<'_>>) -> Result<Action, Ground>
+pub fn turned_away(message: Message<Part<'_>>) -> Result<Outcome, Ground>
     ensures answered_unless_release_complete { outcome_of result ≡ turned_away (seen_record message.entry) message.entry.kind }
 {
     if message.kind == MessageType::ReleaseComplete {
         return Err(Ground::NoSuchCall);
     }
-    Ok(Action::Reply {
+    Ok(Outcome::Reply {
         exchange: Few::One(rejection(message.reference, INVALID_CALL_REFERENCE)),
         sip: Few::Zero,
     })
@@ -58,12 +55,16 @@ pub fn busy_cause(wish: Option<Channel>) -> u8
 }
 
 /// The expiry of a timer of the exchange side, by the reference as the exchange sends it.
-pub fn on_expiry_of(table: &Table, timer: Timer, reference: CallReference) -> Result<Action, Ground>
+pub fn on_expiry_of(
+    table: &Table,
+    timer: Timer,
+    reference: CallReference,
+) -> Result<Outcome, Ground>
     ensures at_the_call_that_the_exchange_means { outcome_of result ≡ at_call (on_expiry timer) (seek (by_reference reference) table.now.places) }
 {
     let found = table
         .find(Key::Reference(reference))
         .ok_or(Ground::NoSuchCall)?;
     let effect = on_expiry(timer, found.call)?;
-    Ok(Action::at(found, effect))
+    Ok(Outcome::at(found, effect))
 }

@@ -2,10 +2,10 @@
 //! place. What needs a channel of the pool is decided where it is seized.
 #![tactic(auto)]
 
-mod action;
 mod exchange;
+mod outcome;
 mod sip;
 
-pub use action::Action;
-pub use exchange::{busy_cause, on_expiry_of, on_heard, turned_away, wants_another};
+pub use exchange::{at_its_call, busy_cause, on_expiry_of, turned_away, wants_another};
+pub use outcome::Outcome;
 pub use sip::{is_status, on_bye, on_cancel, on_expiry_of_cancel, on_response, screen};

@@ -1,1 +1,1 @@
-pub mod Joining
+pub mod Keeping

@@ -4,8 +4,8 @@
 mod dialled;
 
 ghost use Rattle.std.specs.Prelude.{◌≡◌, ◌+◌, ◌≤◌, false, not, ◌++◌, length, take, drop};
-ghost use Rattle.calls.specs.Effects.{recorded as recording, meant as meaning, is_nothing, is_too_many};
-ghost use Rattle.digits.specs.Joining.{Joins, Keeps};
+ghost use Rattle.calls.specs.Effects.{recorded, record_of, meant, is_nothing};
+ghost use Rattle.digits.specs.Keeping.{Keeps};
 
 use calls::Digits;
 pub use dialled::Dialled;
@@ -37,7 +37,7 @@ fn lay(octets: &mut [u8], at: usize, digits: &[u8])
 /// The record of some digits with more behind them, at most 20 together, and noughts after them.
 fn extended(known: &[u8], more: &[u8]) -> Digits
     requires few { length known.now + length more.now ≤ 20 }
-    ensures one_behind_the_other { result ≡ recording (known.now ++ more.now) }
+    ensures one_behind_the_other { result ≡ recorded (known.now ++ more.now) }
 {
     let mut octets = [0u8; MOST_DIGITS];
     lay(&mut octets, 0, known);
@@ -50,21 +50,21 @@ fn extended(known: &[u8], more: &[u8]) -> Digits
 
 /// The record of some digits.
 pub fn recorded(digits: Dialled<'_>) -> Digits
-    ensures these_digits { result ≡ recording digits.entry.octets.now }
+    ensures these_digits { result ≡ recorded digits.entry.octets.now }
 {
     extended(digits.octets, &[])
 }
 
 /// The digits of a record.
 fn meant(digits: &Digits) -> &[u8]
-    ensures at_most_20 { result.now ≡ meaning digits.now }
+    ensures at_most_20 { result.now ≡ meant digits.now }
 {
     &digits.octets[..digits.count.min(MOST_DIGITS)]
 }
 
 /// The digits of a record with more behind them, or nothing where these are more than 20 together.
 pub fn joined(known: Digits, more: &[u8]) -> Option<Digits>
-    ensures joined_unless_too_many { Joins (meaning known ++ more.now) result }
+    ensures joined_unless_too_many { result ≡ record_of (meant known ++ more.now) }
 {
     let held = meant(&known);
     if held.len() + more.len() <= MOST_DIGITS {
@@ -76,7 +76,7 @@ pub fn joined(known: Digits, more: &[u8]) -> Option<Digits>
 
 /// Whether a record has no digit.
 pub fn is_nothing(digits: Digits) -> bool
-    ensures no_digit { result ≡ is_nothing (meaning digits) }
+    ensures no_digit { result ≡ is_nothing (meant digits) }
 {
     meant(&digits).is_empty()
 }

@@ -1,4 +1,4 @@
--- What the code's moves, effects and rulings stand for: those of the rules, with the few messages as lists.
+-- What the code's moves, effects and refusals stand for: those of the rules, with the few messages as lists.
 use Rattle.std.specs.Prelude.{Ok, Err, Result}
 use Rattle.refusals.specs.declared.Ground.{Ground}
 use Rattle.queues.specs.Few.{few_items}
@@ -19,6 +19,6 @@ effect_of e =
     record { after = e.after; seized = e.report.seized; released = e.report.released; timer = e.report.timer; cancelling = e.report.cancelling; exchange = few_items e.exchange; sip = few_items e.sip; numbered = e.numbered }
 
 -- an effect, or the ground of a refusal
-abbrev pub ruling_of : Result Effect Ground → rules.Ruling
-ruling_of (Ok e) = rules.Does (effect_of e)
-ruling_of (Err g) = rules.Refuses g
+abbrev pub decision_of : Result Effect Ground → Result rules.Effect Ground
+decision_of (Ok e) = Ok (effect_of e)
+decision_of (Err ground) = Err ground

@@ -1,18 +1,12 @@
 //! Causes of a clearing, and the statuses that go with them.
 ghost use Rattle.std.specs.Prelude.{◌≡◌};
-ghost use Rattle.calls.specs.Effects.{ours as own_cause, code as status_for, cause_for, is_unavailable};
+ghost use Rattle.calls.specs.Effects.{own_cause, status_for, cause_for, is_unavailable};
 
-use causes::{REMOTE_PRIVATE_NETWORK, cause_of, counted_cause, status_of};
+use causes::{CHANNEL_UNAVAILABLE, REMOTE_PRIVATE_NETWORK, cause_of, counted_cause, status_of};
 use messages::Cause;
 
-/// The requested channel is not available.
-pub const CHANNEL_UNAVAILABLE: u8 = 44;
-
-/// The called number is no number.
-pub const INVALID_NUMBER_FORMAT: u8 = 28;
-
 /// A cause of the gateway's own: it comes from the private network that serves the remote user.
-pub fn ours(value: u8) -> Cause
+pub fn own_cause(value: u8) -> Cause
     ensures from_the_remote_network { result ≡ own_cause value }
 {
     Cause {
@@ -22,7 +16,7 @@ pub fn ours(value: u8) -> Cause
 }
 
 /// The status for a clearing message, which need not carry a cause.
-pub fn code(cause: Option<Cause>) -> u16
+pub fn status_for(cause: Option<Cause>) -> u16
     ensures status_of_the_clearing { result ≡ status_for cause }
 {
     status_of(Cause {

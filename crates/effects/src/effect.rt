@@ -1,13 +1,13 @@
 //! The two halves of a step, and both together.
 ghost use Rattle.std.specs.Prelude.{◌≡◌};
-ghost use Rattle.calls.specs.Effects.{unless_gone, redialled as redialling, moved as moving, made as making};
+ghost use Rattle.calls.specs.Effects.{unless_gone, redialled, moved, made};
 ghost use Rattle.queues.specs.Few.{few_items};
 ghost use Rattle.effects.specs.Moves.{effect_of, exchange_move_of, sip_move_of};
 
+use call_states::{is_gone, timer_of};
 use calls::{Call, Digits, ExchangeSide, Report, SipMessage, SipSide, Timer};
 use messages::{CallReference, Message};
 use queues::few::Few;
-use call_states::{is_gone, timer_of};
 
 /// The exchange side's part of a step.
 #[derive(Clone, Copy, PartialEq, Eq, Debug)]
@@ -48,13 +48,13 @@ fn unless_gone(call: Call) -> Option<Call>
 
 /// Both sides of a call move, and its digits become these.
 pub fn redialled(call: Call, digits: Digits, a: ExchangeMove, b: SipMove) -> Effect
-    ensures both_moves_and_the_digits { effect_of result ≡ redialling call digits (exchange_move_of a) (sip_move_of b) }
+    ensures both_moves_and_the_digits { effect_of result ≡ redialled call digits (exchange_move_of a) (sip_move_of b) }
 {
     Effect {
         after: unless_gone(Call {
             reference: a.reference,
             channel: a.channel,
-            number: call.number,
+            origin: call.origin,
             digits,
             exchange: a.side,
             sip: b.side,
@@ -73,14 +73,14 @@ pub fn redialled(call: Call, digits: Digits, a: ExchangeMove, b: SipMove) -> Eff
 
 /// Both sides of a call move.
 pub fn moved(call: Call, a: ExchangeMove, b: SipMove) -> Effect
-    ensures both_moves { effect_of result ≡ moving call (exchange_move_of a) (sip_move_of b) }
+    ensures both_moves { effect_of result ≡ moved call (exchange_move_of a) (sip_move_of b) }
 {
     redialled(call, call.digits, a, b)
 }
 
 /// A new call begins: its channel is seized, and its first message goes to the exchange.
 pub fn made(call: Call, first: Message<Digits>, sip: Few<SipMessage>, numbered: bool) -> Effect
-    ensures new_call_on_its_channel { effect_of result ≡ making call first (few_items sip) numbered }
+    ensures new_call_on_its_channel { effect_of result ≡ made call first (few_items sip) numbered }
 {
     Effect {
         after: Some(call),

@@ -1,19 +1,19 @@
 //! The moves of the exchange side.
 ghost use Rattle.std.specs.Prelude.{◌≡◌};
 ghost use Rattle.queues.specs.Few.{few_items};
-ghost use Rattle.calls.specs.Effects.{stays as staying, enters as entering, ends as ending, clears_exchange, retries as retrying, releases as releasing};
+ghost use Rattle.calls.specs.Effects.{stays, enters, ends, clears_exchange, retries, releases};
 ghost use Rattle.effects.specs.Moves.{exchange_move_of};
 
 use crate::effect::ExchangeMove;
 use crate::telling::{setup_on, tell_cause};
+use call_states::{is_uncleared, sent_cause, timer_of};
 use calls::{Call, Digits, ExchangeSide};
 use messages::{CallReference, Cause, Message, MessageType};
 use queues::few::Few;
-use call_states::{is_uncleared, sent_cause, timer_of};
 
 /// The state stays, and its timer runs on.
 pub fn stays(call: Call, sent: Few<Message<Digits>>) -> ExchangeMove
-    ensures same_state_and_timer { exchange_move_of result ≡ staying call (few_items sent) }
+    ensures same_state_and_timer { exchange_move_of result ≡ stays call (few_items sent) }
 {
     ExchangeMove {
         side: call.exchange,
@@ -28,7 +28,7 @@ pub fn stays(call: Call, sent: Few<Message<Digits>>) -> ExchangeMove
 
 /// A state is entered, and its timer starts.
 pub fn enters(call: Call, side: ExchangeSide, sent: Few<Message<Digits>>) -> ExchangeMove
-    ensures new_state_and_its_timer { exchange_move_of result ≡ entering call side (few_items sent) }
+    ensures new_state_and_its_timer { exchange_move_of result ≡ enters call side (few_items sent) }
 {
     ExchangeMove {
         side,
@@ -39,7 +39,7 @@ pub fn enters(call: Call, side: ExchangeSide, sent: Few<Message<Digits>>) -> Exc
 
 /// The side is over, and its channel is released.
 pub fn ends(call: Call, sent: Few<Message<Digits>>) -> ExchangeMove
-    ensures over_and_its_channel_released { exchange_move_of result ≡ ending call (few_items sent) }
+    ensures over_and_its_channel_released { exchange_move_of result ≡ ends call (few_items sent) }
 {
     ExchangeMove {
         side: ExchangeSide::Over,
@@ -63,7 +63,7 @@ pub fn clears_exchange(call: Call, cause: Cause) -> ExchangeMove
 
 /// SETUP once more, on another channel, which was idle while the refused one was still held; the refused one is released.
 pub fn retries(call: Call, channel: u8) -> ExchangeMove
-    ensures setup_on_the_other_channel { exchange_move_of result ≡ retrying call channel }
+    ensures setup_on_the_other_channel { exchange_move_of result ≡ retries call channel }
 {
     let refused = call.channel;
     let setup = setup_on(channel, call.digits);
@@ -81,7 +81,7 @@ pub fn retries(call: Call, channel: u8) -> ExchangeMove
 
 /// RELEASE goes out, with the cause that went out before.
 pub fn releases(call: Call, repeated: bool) -> ExchangeMove
-    ensures release_with_the_same_cause { exchange_move_of result ≡ releasing call repeated }
+    ensures release_with_the_same_cause { exchange_move_of result ≡ releases call repeated }
 {
     let cause = sent_cause(call.exchange);
     let release = tell_cause(MessageType::Release, call, cause);

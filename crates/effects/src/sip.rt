@@ -1,22 +1,17 @@
 //! The moves of the SIP side.
 ghost use Rattle.std.specs.Prelude.{◌≡◌};
 ghost use Rattle.queues.specs.Few.{few_items};
-ghost use Rattle.calls.specs.Effects.{becomes as becoming, keeps as keeping, number_of, clears_from, clears_sip, invites as inviting, responds_from, answers_from, leaves_from};
+ghost use Rattle.calls.specs.Effects.{becomes, keeps, cancels, clears_from, clears_sip, invites, responds, answers, leaves_sip};
 ghost use Rattle.effects.specs.Moves.{sip_move_of};
 
 use crate::effect::SipMove;
-use calls::{Call, Digits, SipMessage, SipSide, Told};
+use calls::{Call, Digits, Origin, SipMessage, SipSide, Told};
+use causes::{OK, REQUEST_TERMINATED};
 use queues::few::Few;
-
-pub const OK: u16 = 200;
-
-pub const SERVICE_UNAVAILABLE: u16 = 503;
-
-const REQUEST_TERMINATED: u16 = 487;
 
 /// The side is then in this state, and no timer starts.
 pub fn becomes(side: SipSide, sent: Few<SipMessage>) -> SipMove
-    ensures state_without_timer { sip_move_of result ≡ becoming side (few_items sent) }
+    ensures state_without_timer { sip_move_of result ≡ becomes side (few_items sent) }
 {
     SipMove {
         side,
@@ -27,35 +22,36 @@ pub fn becomes(side: SipSide, sent: Few<SipMessage>) -> SipMove
 
 /// Nothing happens on SIP.
 pub fn keeps(call: Call) -> SipMove
-    ensures same_state_nothing_sent { sip_move_of result ≡ keeping call }
+    ensures same_state_nothing_sent { sip_move_of result ≡ keeps call }
 {
     becomes(call.sip, Few::Zero)
 }
 
-/// The number of the INVITE that goes out, of a call that a SETUP made.
-fn number_of(call: Call) -> u64
-    ensures number_of_the_call { result ≡ number_of call }
+/// CANCEL of the INVITE that is out: a call that a SETUP made has one, with its number.
+fn cancels(origin: Origin) -> SipMove
+    ensures cancel_with_the_number { sip_move_of result ≡ cancels origin }
 {
-    call.number.unwrap_or(0)
-}
-
-fn clears_from(number: u64, status: u16, side: SipSide) -> SipMove
-    ensures cleared_as_the_state_asks { sip_move_of result ≡ clears_from number status side }
-{
-    match side {
-        SipSide::InviteSent { .. } => SipMove {
+    match origin {
+        Origin::Exchange { number } => SipMove {
             side: SipSide::CancelSent,
             cancelling: true,
             sent: Few::One(SipMessage::Cancel { number }),
         },
+        Origin::Sip => becomes(SipSide::None, Few::Zero),
+    }
+}
+
+fn clears_from(origin: Origin, status: u16, side: SipSide) -> SipMove
+    ensures cleared_as_the_state_asks { sip_move_of result ≡ clears_from origin status side }
+{
+    match side {
+        SipSide::InviteSent { .. } => cancels(origin),
         SipSide::InviteUnanswered { transaction, .. } => {
-            becomes(
-                SipSide::None,
-                Few::One(SipMessage::Response {
-                    transaction,
-                    status,
-                }),
-            )
+            let response = SipMessage::Response {
+                transaction,
+                status,
+            };
+            becomes(SipSide::None, Few::One(response))
         }
         SipSide::Up { dialogue } => becomes(SipSide::None, Few::One(SipMessage::Bye { dialogue })),
         other => becomes(other, Few::Zero),
@@ -66,24 +62,26 @@ fn clears_from(number: u64, status: u16, side: SipSide) -> SipMove
 pub fn clears_sip(call: Call, status: u16) -> SipMove
     ensures cancel_response_or_bye { sip_move_of result ≡ clears_sip call status }
 {
-    clears_from(number_of(call), status, call.sip)
+    clears_from(call.origin, status, call.sip)
 }
 
-/// An INVITE goes out with the call's number; nothing is told to the exchange yet.
-pub fn invites(call: Call, digits: Digits) -> SipMove
-    ensures invite_with_the_number { sip_move_of result ≡ inviting (number_of call) digits }
+/// An INVITE goes out with the number of the call that a SETUP made; nothing is told to the exchange yet.
+pub fn invites(origin: Origin, digits: Digits) -> SipMove
+    ensures invite_with_the_number { sip_move_of result ≡ invites origin digits }
 {
-    let told = Told::default();
-    let invite = SipMessage::Invite {
-        number: number_of(call),
-        digits,
-    };
-    becomes(SipSide::InviteSent { told }, Few::One(invite))
+    match origin {
+        Origin::Exchange { number } => {
+            let told = Told::default();
+            let invite = SipMessage::Invite { number, digits };
+            becomes(SipSide::InviteSent { told }, Few::One(invite))
+        }
+        Origin::Sip => becomes(SipSide::None, Few::Zero),
+    }
 }
 
 /// A provisional response to the INVITE that is unanswered.
 pub fn responds(status: u16, side: SipSide) -> SipMove
-    ensures response_where_unanswered { sip_move_of result ≡ responds_from status side }
+    ensures response_where_unanswered { sip_move_of result ≡ responds status side }
 {
     match side {
         SipSide::InviteUnanswered { transaction, .. } => {
@@ -99,7 +97,7 @@ pub fn responds(status: u16, side: SipSide) -> SipMove
 
 /// 200 to the INVITE that is unanswered.
 pub fn answers(side: SipSide) -> SipMove
-    ensures up_by_the_answer { sip_move_of result ≡ answers_from side }
+    ensures up_by_the_answer { sip_move_of result ≡ answers side }
 {
     match side {
         SipSide::InviteUnanswered {
@@ -120,7 +118,7 @@ pub fn answers(side: SipSide) -> SipMove
 
 /// The other end's CANCEL or BYE: 487 to an INVITE that is unanswered.
 pub fn leaves_sip(side: SipSide) -> SipMove
-    ensures over_or_still_calling { sip_move_of result ≡ leaves_from side }
+    ensures over_or_still_calling { sip_move_of result ≡ leaves_sip side }
 {
     match side {
         SipSide::InviteUnanswered { transaction, .. } => {

@@ -1,15 +1,14 @@
 //! Messages to the exchange.
 ghost use Rattle.std.specs.Prelude.{◌≡◌};
-ghost use Rattle.calls.specs.Effects.{turned as turned_round, exclusively as that_alone, tell as telling, tell_cause, tell_progress, setup_on};
-ghost use Rattle.effects.specs.Answering.{answering_setup, rejecting};
+ghost use Rattle.calls.specs.Effects.{turned, said, exclusively, tell, tell_cause, tell_progress, setup_on, answer_to_setup, rejection};
 
-use crate::clearing::ours;
+use crate::clearing::own_cause;
 use calls::{Call, Digits};
 use messages::{CallReference, Cause, Channel, Elements, Message, MessageType};
 
 /// The same reference as the other end sends it.
 fn turned(reference: CallReference) -> CallReference
-    ensures other_flag_same_number { result ≡ turned_round reference }
+    ensures other_flag_same_number { result ≡ turned reference }
 {
     CallReference {
         flag: !reference.flag,
@@ -19,7 +18,7 @@ fn turned(reference: CallReference) -> CallReference
 
 /// A message in answer to this reference, with these elements.
 fn said(kind: MessageType, reference: CallReference, elements: Elements<Digits>) -> Message<Digits>
-    ensures message_of_these_elements { result ≡ record { reference = turned_round reference; kind = kind; elements = elements } }
+    ensures message_of_these_elements { result ≡ said kind reference elements }
 {
     Message {
         reference: turned(reference),
@@ -30,7 +29,7 @@ fn said(kind: MessageType, reference: CallReference, elements: Elements<Digits>)
 
 /// A message on a call, without any element.
 pub fn tell(kind: MessageType, call: Call) -> Message<Digits>
-    ensures bare_message { result ≡ telling kind call }
+    ensures bare_message { result ≡ tell kind call }
 {
     said(kind, call.reference, Elements::bare())
 }
@@ -59,7 +58,7 @@ pub fn tell_progress(kind: MessageType, call: Call, progress: Option<u8>) -> Mes
 
 /// That channel and no other.
 fn exclusively(channel: u8) -> Option<Channel>
-    ensures that_channel_alone { result ≡ that_alone channel }
+    ensures that_channel_alone { result ≡ exclusively channel }
 {
     Some(Channel {
         number: channel,
@@ -87,8 +86,8 @@ pub fn setup_on(channel: u8, digits: Digits) -> Message<Digits>
 }
 
 /// An answer to the SETUP with this reference, which says on which channel the call goes.
-pub fn answers_setup(kind: MessageType, reference: CallReference, channel: u8) -> Message<Digits>
-    ensures message_with_the_channel { result ≡ answering_setup kind reference channel }
+pub fn answer_to_setup(kind: MessageType, reference: CallReference, channel: u8) -> Message<Digits>
+    ensures message_with_the_channel { result ≡ answer_to_setup kind reference channel }
 {
     let with_channel = Elements {
         channel: exclusively(channel),
@@ -99,10 +98,10 @@ pub fn answers_setup(kind: MessageType, reference: CallReference, channel: u8) -
 
 /// RELEASE COMPLETE with a cause of the gateway's own, to a message that makes or finds no call.
 pub fn rejection(reference: CallReference, value: u8) -> Message<Digits>
-    ensures release_complete_with_the_cause { result ≡ rejecting reference value }
+    ensures release_complete_with_the_cause { result ≡ rejection reference value }
 {
     let with_cause = Elements {
-        cause: Some(ours(value)),
+        cause: Some(own_cause(value)),
         ..Elements::bare()
     };
     said(MessageType::ReleaseComplete, reference, with_cause)

@@ -1,21 +1,16 @@
 //! The expiry of a timer of the exchange side.
 ghost use Rattle.std.specs.Prelude.{◌≡◌};
 ghost use Rattle.calls.specs.Effects.{gives_up, on_timer, on_expiry};
-ghost use Rattle.effects.specs.Moves.{effect_of, ruling_of};
+ghost use Rattle.effects.specs.Moves.{effect_of, decision_of};
 
 use crate::dialled::{proceeds, spurns};
+use call_states::{is_repeated, is_running};
 use calls::{Call, Timer};
+use causes::{RECOVERY_ON_TIMER_EXPIRY, REQUEST_TIMEOUT, TEMPORARILY_UNAVAILABLE};
 use digits::is_nothing;
-use effects::{Effect, clears_exchange, clears_sip, ends, keeps, moved, ours, releases};
+use effects::{Effect, clears_exchange, clears_sip, ends, keeps, moved, own_cause, releases};
 use queues::few::Few;
 use refusals::Ground;
-use call_states::{is_repeated, is_running};
-
-const RECOVERY_ON_TIMER_EXPIRY: u8 = 102;
-
-const REQUEST_TIMEOUT: u16 = 408;
-
-const TEMPORARILY_UNAVAILABLE: u16 = 480;
 
 /// Nothing came in time: both sides are cleared.
 fn gives_up(call: Call, status: u16) -> Effect
@@ -23,7 +18,7 @@ fn gives_up(call: Call, status: u16) -> Effect
 {
     moved(
         call,
-        clears_exchange(call, ours(RECOVERY_ON_TIMER_EXPIRY)),
+        clears_exchange(call, own_cause(RECOVERY_ON_TIMER_EXPIRY)),
         clears_sip(call, status),
     )
 }
@@ -64,7 +59,7 @@ fn on_timer(call: Call, timer: Timer) -> Effect
 
 /// The expiry of a timer that runs; of another it is refused.
 pub fn on_expiry(timer: Timer, call: Call) -> Result<Effect, Ground>
-    ensures of_the_running_timer { ruling_of result ≡ on_expiry timer call }
+    ensures of_the_running_timer { decision_of result ≡ on_expiry timer call }
 {
     is_running(timer, call.exchange)
         .then(|| on_timer(call, timer))

@@ -1,29 +1,26 @@
 //! A message from the exchange that finds its call.
-ghost use Rattle.std.specs.Prelude.{◌≡◌, ◌&&◌, ◌∷◌, []};
-ghost use Rattle.calls.specs.Sides.{is_in};
-ghost use Rattle.calls.specs.Effects.{moved as moving, stays as staying, enters as entering, keeps as keeping, responds_from, answers_from, tell as telling, tries_again, disconnected as disconnecting, released as releasing, completed as completing, is_unavailable, on_type};
+ghost use Rattle.std.specs.Prelude.{◌≡◌, ◌∷◌, []};
+ghost use Rattle.calls.specs.Effects.{moved, stays, enters, keeps, responds, answers, tell, tries_again, disconnected, released, asks_for_another, completed, on_type};
+ghost use Rattle.causes.specs.Names.{ringing, session_progress};
 ghost use Rattle.reader.specs.Seen.{seen_record};
-ghost use Rattle.effects.specs.Moves.{effect_of, ruling_of};
+ghost use Rattle.effects.specs.Moves.{effect_of, decision_of};
 
 use crate::dialled::collects;
 use crate::moment::{is_unalerted, is_unconnected, only};
+use call_states::is_unreleased;
 use calls::{Call, ExchangeSide};
-use messages::{Cause, Message, MessageType, Part};
+use causes::{RINGING, SERVICE_UNAVAILABLE, SESSION_PROGRESS};
 use effects::{
-    Effect, SERVICE_UNAVAILABLE, answers, clears_sip, code, ends, enters, is_unavailable, keeps,
-    moved, responds, retries, stays, tell,
+    Effect, answers, clears_sip, ends, enters, is_unavailable, keeps, moved, responds, retries,
+    status_for, stays, tell,
 };
+use messages::{Cause, Message, MessageType, Part};
 use queues::few::Few;
 use refusals::Ground;
-use call_states::is_unreleased;
-
-const RINGING: u16 = 180;
-
-const SESSION_PROGRESS: u16 = 183;
 
 /// ALERTING: the called party is alerted.
 fn alerted(call: Call) -> Effect
-    ensures ringing_on_both_sides { effect_of result ≡ moving call (entering call ExchangeSide.Ringing []) (responds_from 180 call.sip) }
+    ensures ringing_on_both_sides { effect_of result ≡ moved call (enters call ExchangeSide.Ringing []) (responds ringing call.sip) }
 {
     moved(
         call,
@@ -34,14 +31,14 @@ fn alerted(call: Call) -> Effect
 
 /// CALL PROCEEDING or CONNECT ACKNOWLEDGE: a state is entered, and nothing is sent.
 fn advanced(call: Call, side: ExchangeSide) -> Effect
-    ensures nothing_sent { effect_of result ≡ moving call (entering call side []) (keeping call) }
+    ensures nothing_sent { effect_of result ≡ moved call (enters call side []) (keeps call) }
 {
     moved(call, enters(call, side, Few::Zero), keeps(call))
 }
 
 /// PROGRESS: the state stays.
 fn progressed(call: Call) -> Effect
-    ensures session_progress { effect_of result ≡ moving call (staying call []) (responds_from 183 call.sip) }
+    ensures session_progress { effect_of result ≡ moved call (stays call []) (responds session_progress call.sip) }
 {
     moved(
         call,
@@ -52,7 +49,7 @@ fn progressed(call: Call) -> Effect
 
 /// CONNECT: the called party answered.
 fn connected(call: Call) -> Effect
-    ensures up_on_both_sides { effect_of result ≡ moving call (entering call ExchangeSide.Up (telling MessageType.ConnectAcknowledge call ∷ [])) (answers_from call.sip) }
+    ensures up_on_both_sides { effect_of result ≡ moved call (enters call ExchangeSide.Up (tell MessageType.ConnectAcknowledge call ∷ [])) (answers call.sip) }
 {
     let acknowledge = tell(MessageType::ConnectAcknowledge, call);
     moved(
@@ -64,7 +61,7 @@ fn connected(call: Call) -> Effect
 
 /// DISCONNECT: RELEASE goes out, and the channel is held until its end.
 fn disconnected(call: Call, status: u16) -> Effect
-    ensures release_and_channel_held { effect_of result ≡ disconnecting call status }
+    ensures release_and_channel_held { effect_of result ≡ disconnected call status }
 {
     let release = tell(MessageType::Release, call);
     let releasing = ExchangeSide::ReleaseSent {
@@ -80,7 +77,7 @@ fn disconnected(call: Call, status: u16) -> Effect
 
 /// RELEASE: the exchange side is over. Where the gateway's own RELEASE is out too, nothing is sent.
 fn released(call: Call, status: u16) -> Effect
-    ensures over_with_the_channel_released { effect_of result ≡ releasing call status }
+    ensures over_with_the_channel_released { effect_of result ≡ released call status }
 {
     if is_unreleased(call.exchange) {
         let complete = tell(MessageType::ReleaseComplete, call);
@@ -110,19 +107,23 @@ pub fn tries_again(pick: Option<u8>, call: Call) -> Effect
 
 /// Whether a RELEASE COMPLETE with this cause asks for another channel.
 pub fn asks_for_another(side: ExchangeSide, cause: Option<Cause>) -> bool
-    ensures setup_refused_for_its_channel { result ≡ (is_in ExchangeSide.SetupSent side && is_unavailable cause) }
+    ensures setup_refused_for_its_channel { result ≡ asks_for_another side cause }
 {
     side == ExchangeSide::SetupSent && is_unavailable(cause)
 }
 
 /// RELEASE COMPLETE: the exchange side is over, unless another channel is tried.
 fn completed(pick: Option<u8>, cause: Option<Cause>, call: Call) -> Effect
-    ensures over_or_tried_again { effect_of result ≡ completing pick cause call }
+    ensures over_or_tried_again { effect_of result ≡ completed pick cause call }
 {
     if asks_for_another(call.exchange, cause) {
         tries_again(pick, call)
     } else {
-        moved(call, ends(call, Few::Zero), clears_sip(call, code(cause)))
+        moved(
+            call,
+            ends(call, Few::Zero),
+            clears_sip(call, status_for(cause)),
+        )
     }
 }
 
@@ -133,7 +134,7 @@ pub fn on_message(
     message: Message<Part<'_>>,
     call: Call,
 ) -> Result<Effect, Ground>
-    ensures by_type_and_state { ruling_of result ≡ on_type full pick (seen_record message.entry) call message.entry.kind }
+    ensures by_type_and_state { decision_of result ≡ on_type full pick (seen_record message.entry) call message.entry.kind }
 {
     let side = call.exchange;
     let cause = message.elements.cause;
@@ -151,8 +152,8 @@ pub fn on_message(
             let next = ExchangeSide::Up;
             only(side == ExchangeSide::ConnectSent, advanced(call, next))
         }
-        MessageType::Disconnect => only(is_unreleased(side), disconnected(call, code(cause))),
-        MessageType::Release => Ok(released(call, code(cause))),
+        MessageType::Disconnect => only(is_unreleased(side), disconnected(call, status_for(cause))),
+        MessageType::Release => Ok(released(call, status_for(cause))),
         MessageType::ReleaseComplete => Ok(completed(pick, cause, call)),
         MessageType::Information => {
             let effect = collects(full, message, call);

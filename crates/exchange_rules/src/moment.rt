@@ -1,8 +1,8 @@
 //! When a message is in its time.
 ghost use Rattle.std.specs.Prelude.{◌≡◌};
 ghost use Rattle.calls.specs.Sides.{from_to};
-ghost use Rattle.calls.specs.Effects.{only as only_then};
-ghost use Rattle.effects.specs.Moves.{effect_of, ruling_of};
+ghost use Rattle.calls.specs.Effects.{only};
+ghost use Rattle.effects.specs.Moves.{effect_of, decision_of};
 
 use calls::ExchangeSide;
 use effects::Effect;
@@ -10,7 +10,7 @@ use refusals::Ground;
 
 /// In its time the effect; else it is not the time for it.
 pub fn only(in_time: bool, effect: Effect) -> Result<Effect, Ground>
-    ensures effect_in_its_time { ruling_of result ≡ only_then in_time (effect_of effect) }
+    ensures effect_in_its_time { decision_of result ≡ only in_time (effect_of effect) }
 {
     in_time.then_some(effect).ok_or(Ground::NotNow)
 }

@@ -1,23 +1,21 @@
 //! The call that an INVITE makes.
 ghost use Rattle.std.specs.Prelude.{◌≡◌, IfOk};
 ghost use Rattle.std.specs.Result.{result_err};
-ghost use Rattle.calls.specs.Effects.{invited as inviting, invite_call};
+ghost use Rattle.calls.specs.Effects.{invited, invite_call};
+ghost use Rattle.calls.specs.Rules.{dialling_status};
 ghost use Rattle.effects.specs.Moves.{effect_of};
-ghost use Rattle.sip_rules.specs.Dialled.{refusal_of, IsAsItCame};
+ghost use Rattle.sip_rules.specs.Dialled.{IsAsItCame};
 
-use calls::{Call, ExchangeSide, Invite, SipSide};
+use calls::{Call, ExchangeSide, Invite, Origin, SipSide};
+use causes::{ADDRESS_INCOMPLETE, NOT_FOUND};
 use digits::{Dialled, recorded};
-use messages::{CallReference, all_digits};
 use effects::{Effect, made, setup_on};
+use messages::{CallReference, all_digits};
 use queues::few::Few;
-
-const NOT_FOUND: u16 = 404;
-
-const ADDRESS_INCOMPLETE: u16 = 484;
 
 /// An INVITE whose digits make a call, that is one to 20 digits, or the status that answers it.
 pub fn dialled(invite: Invite<&[u8]>) -> Result<Invite<Dialled<'_>>, u16>
-    ensures none_or_not_a_number { result_err result ≡ refusal_of invite.entry.digits.now }
+    ensures none_or_not_a_number { result_err result ≡ dialling_status invite.entry.digits.now }
     ensures as_it_came { IfOk result (λ tested. IsAsItCame invite.entry tested) }
 {
     if invite.digits.is_empty() {
@@ -42,7 +40,7 @@ fn invite_call(invite: Invite<Dialled<'_>>, channel: u8) -> Call
             number: u16::from(channel),
         },
         channel,
-        number: None,
+        origin: Origin::Sip,
         digits: recorded(invite.digits),
         exchange: ExchangeSide::SetupSent,
         sip: SipSide::InviteUnanswered {
@@ -54,7 +52,7 @@ fn invite_call(invite: Invite<Dialled<'_>>, channel: u8) -> Call
 
 /// A new call from SIP: SETUP goes to the exchange on this channel.
 pub fn invited(invite: Invite<Dialled<'_>>, channel: u8) -> Effect
-    ensures setup_on_the_channel { effect_of result ≡ inviting invite.entry.transaction invite.entry.dialogue invite.entry.digits.octets.now channel }
+    ensures setup_on_the_channel { effect_of result ≡ invited invite.entry.transaction invite.entry.dialogue invite.entry.digits.octets.now channel }
 {
     let call = invite_call(invite, channel);
     made(call, setup_on(channel, call.digits), Few::Zero, false)

@@ -4,11 +4,9 @@
 mod ending;
 mod invite;
 mod news;
-mod number;
 mod response;
 mod ringing;
 
 pub use ending::{leaves, on_cancel_expiry};
 pub use invite::{dialled, invited};
-pub use number::following;
 pub use response::{accepts, ack, ack_and_bye, on_other};

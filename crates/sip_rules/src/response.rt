@@ -1,22 +1,21 @@
 //! Final responses to the INVITE of a call.
 ghost use Rattle.std.specs.Prelude.{◌≡◌, [], nat_le};
 ghost use Rattle.queues.specs.Few.{few_items};
-ghost use Rattle.calls.specs.Effects.{fails as failing, ack_and_bye, accepts as accepting, moved as moving, stays as staying, becomes as becoming, untold, Does};
+ghost use Rattle.calls.specs.Effects.{fails, ack_and_bye, accepts, moved, stays, becomes, untold};
+ghost use Rattle.causes.specs.Names.{first_failure};
 ghost use Rattle.calls.specs.Rules.{on_other};
 ghost use Rattle.effects.specs.Moves.{effect_of};
 
 use crate::ringing::provisional;
 use calls::{Call, ExchangeSide, Response, SipMessage, SipSide};
-use messages::{Cause, MessageType};
+use causes::FIRST_FAILURE;
 use effects::{Effect, becomes, cause_for, clears_exchange, enters, moved, stays, tell};
+use messages::{Cause, MessageType};
 use queues::few::Few;
-
-/// Final responses from here on refuse.
-const FIRST_REFUSAL: u16 = 300;
 
 /// A final response that refuses: the SIP side is over, and the exchange is cleared unless CANCEL was sent.
 fn fails(call: Call, cause: Cause) -> Effect
-    ensures cleared_unless_cancelled { effect_of result ≡ failing call cause }
+    ensures cleared_unless_cancelled { effect_of result ≡ fails call cause }
 {
     let exchange = match call.sip {
         SipSide::InviteSent { .. } => clears_exchange(call, cause),
@@ -47,7 +46,7 @@ pub fn ack_and_bye(response: Response) -> Few<SipMessage>
 
 /// The INVITE is answered: CONNECT to the exchange, ACK to SIP.
 fn connects(call: Call, response: Response) -> Effect
-    ensures connect_and_ack { effect_of result ≡ accepting call response.number response.dialogue (SipSide.InviteSent untold) }
+    ensures connect_and_ack { effect_of result ≡ accepts call response.number response.dialogue (SipSide.InviteSent untold) }
 {
     let connect = tell(MessageType::Connect, call);
     let up = SipSide::Up {
@@ -62,7 +61,7 @@ fn connects(call: Call, response: Response) -> Effect
 
 /// A 200 that changes the SIP side to this, or leaves it so.
 fn acknowledges(call: Call, side: SipSide, sent: Few<SipMessage>) -> Effect
-    ensures exchange_side_untouched { effect_of result ≡ moving call (staying call []) (becoming side (few_items sent)) }
+    ensures exchange_side_untouched { effect_of result ≡ moved call (stays call []) (becomes side (few_items sent)) }
 {
     moved(call, stays(call, Few::Zero), becomes(side, sent))
 }
@@ -70,7 +69,7 @@ fn acknowledges(call: Call, side: SipSide, sent: Few<SipMessage>) -> Effect
 /// A 200 on a dialogue: the call's own INVITE is answered; or it is the 200 that the call is up by, once more; or it is not
 /// wanted, since CANCEL went out or the call is up by another.
 pub fn accepts(call: Call, response: Response) -> Effect
-    ensures answered_or_ended { effect_of result ≡ accepting call response.number response.dialogue call.sip }
+    ensures answered_or_ended { effect_of result ≡ accepts call response.number response.dialogue call.sip }
 {
     match call.sip {
         SipSide::InviteSent { .. } => connects(call, response),
@@ -84,14 +83,14 @@ pub fn accepts(call: Call, response: Response) -> Effect
 
 /// Whether a status is that of a final response that refuses.
 fn is_refusal(status: u16) -> bool
-    ensures from_300_on { result ≡ nat_le 300 status }
+    ensures from_300_on { result ≡ nat_le first_failure status }
 {
-    status >= FIRST_REFUSAL
+    status >= FIRST_FAILURE
 }
 
 /// A provisional response, or a final one that refuses.
 pub fn on_other(response: Response, call: Call) -> Effect
-    ensures ringing_or_refused { Does (effect_of result) ≡ on_other response.status response.media call }
+    ensures ringing_or_refused { effect_of result ≡ on_other response.status response.media call }
 {
     if is_refusal(response.status) {
         fails(call, cause_for(response.status))

@@ -1,30 +1,30 @@
 //! Provisional responses: what the exchange is told of the called party.
-ghost use Rattle.std.specs.Prelude.{◌≡◌, Some};
-ghost use Rattle.calls.specs.Effects.{rests as resting, announces as announcing, alerts as alerting, rings as ringing, tell_progress, provisional as on_provisional};
+ghost use Rattle.std.specs.Prelude.{◌≡◌};
+ghost use Rattle.calls.specs.Effects.{rests, announces, tells, provisional};
 ghost use Rattle.effects.specs.Moves.{effect_of};
 
-use crate::news::{News, news_of};
-use calls::{Call, Digits, Response, SipSide, Told};
-use messages::{Message, MessageType};
+use crate::news::news_of;
+use calls::{Call, Digits, News, Response, SipSide, Told};
 use effects::{Effect, becomes, keeps, moved, stays, tell_progress};
+use messages::{Message, MessageType};
 use queues::few::Few;
 
 /// The call is not QSIG from end to end.
 const INTERWORKING: u8 = 1;
 
 /// Tones or speech are to be heard in band.
-const INBAND: u8 = 8;
+const IN_BAND: u8 = 8;
 
 /// Nothing is sent, and nothing changes.
 fn rests(call: Call) -> Effect
-    ensures unchanged { effect_of result ≡ resting call }
+    ensures unchanged { effect_of result ≡ rests call }
 {
     moved(call, stays(call, Few::Zero), keeps(call))
 }
 
 /// Something is told to the exchange, and kept in mind.
 fn announces(call: Call, message: Message<Digits>, told: Told) -> Effect
-    ensures told_and_kept_in_mind { effect_of result ≡ announcing call message told }
+    ensures told_and_kept_in_mind { effect_of result ≡ announces call message told }
 {
     moved(
         call,
@@ -33,50 +33,31 @@ fn announces(call: Call, message: Message<Digits>, told: Told) -> Effect
     )
 }
 
-/// ALERTING, with the description that something is to be heard exactly if there are media.
-fn alerts(call: Call, told: Told, media: bool) -> Effect
-    ensures alerting_by_the_media { effect_of result ≡ alerting call told media }
+/// The news of a provisional response goes to the exchange, and is kept in mind.
+fn tells(call: Call, media: bool, told: Told, news: Option<News>) -> Effect
+    ensures told_and_kept_in_mind { effect_of result ≡ tells call media told news }
 {
-    let message = tell_progress(MessageType::Alerting, call, media.then_some(INBAND));
-    announces(
-        call,
-        message,
-        Told {
-            alerting: true,
-            ..told
-        },
-    )
-}
-
-/// PROGRESS with a description.
-fn tells(call: Call, description: u8, told: Told) -> Effect
-    ensures progress_with_the_description { effect_of result ≡ announcing call (tell_progress MessageType.Progress call (Some description)) told }
-{
-    announces(
-        call,
-        tell_progress(MessageType::Progress, call, Some(description)),
-        told,
-    )
-}
-
-/// A provisional response while the INVITE is out: its news goes to the exchange, and is kept in mind.
-fn rings(call: Call, response: Response, told: Told) -> Effect
-    ensures told_by_status_and_media { effect_of result ≡ ringing call response.status response.media told }
-{
-    match news_of(response, told) {
+    match news {
         None => rests(call),
-        Some(News::Alerting) => alerts(call, told, response.media),
-        Some(News::Inband) => tells(
+        Some(News::Alerting) => announces(
             call,
-            INBAND,
+            tell_progress(MessageType::Alerting, call, media.then_some(IN_BAND)),
+            Told {
+                alerting: true,
+                ..told
+            },
+        ),
+        Some(News::InBand) => announces(
+            call,
+            tell_progress(MessageType::Progress, call, Some(IN_BAND)),
             Told {
                 inband: true,
                 ..told
             },
         ),
-        Some(News::Interworking) => tells(
+        Some(News::Interworking) => announces(
             call,
-            INTERWORKING,
+            tell_progress(MessageType::Progress, call, Some(INTERWORKING)),
             Told {
                 interworking: true,
                 ..told
@@ -87,10 +68,10 @@ fn rings(call: Call, response: Response, told: Told) -> Effect
 
 /// A provisional response; while CANCEL is out it is taken, and nothing is sent.
 pub fn provisional(call: Call, response: Response) -> Effect
-    ensures told_while_the_invite_is_out { effect_of result ≡ on_provisional call response.status response.media call.sip }
+    ensures told_while_the_invite_is_out { effect_of result ≡ provisional call response.status response.media call.sip }
 {
     match call.sip {
-        SipSide::InviteSent { told } => rings(call, response, told),
+        SipSide::InviteSent { told } => tells(call, response.media, told, news_of(response, told)),
         _ => rests(call),
     }
 }
