@@ -6,7 +6,8 @@ use Rattle.calls.specs.declared.record.Call.{Call}
 use Rattle.calls.specs.Sides.{named, holds, on_call}
 use Rattle.calls.specs.Standing.{SoundAt}
 use Rattle.calls.specs.Effects.{Effect}
-use Rattle.calls.specs.Rules.{State, Event, Outcome, Refuse, Reply, Move, TookExchange, TookSip}
+use Rattle.calls.specs.Rules.{State, Outcome, Refuse, Reply, Change, TookExchange, TookSip}
+use Rattle.calls.specs.Laws.{Brought}
 use Rattle.calls.proofs.Sounds.{sound_tested}
 use Rattle.calls.proofs.Steps.{Lawful}
 use Rattle.call_table.specs.Tokens.{token_channel, token_of}
@@ -38,15 +39,12 @@ ready_kept places i e len inside h none sound =
 
 -- an outcome by the rules that seizes nothing
 abbrev pub Unseizing : Outcome → Type 0
-Unseizing (Refuse r) = Unit {0}
-Unseizing (Reply ms ss) = Unit {0}
-Unseizing (Move i e) = e.seized ≡ None
-Unseizing TookExchange = Unit {0}
-Unseizing TookSip = Unit {0}
+Unseizing (Change i e) = e.seized ≡ None
+Unseizing _ = Unit {0}
 
-pub possible : (st : State) → length st.table ≡ 64 → (ev : Event) (o : Outcome) → Lawful st ev o → Unseizing o → Possible st.table o
+pub possible : (st : State) → length st.table ≡ 64 → (ev : Brought) (o : Outcome) → Lawful st ev o → Unseizing o → Possible st.table o
+possible st len ev (Change i e) l u = (ready_kept st.table i e len l.1 l.2.channels u l.2.sound, u)
 possible st len ev (Refuse r) l u = tt
 possible st len ev (Reply ms ss) l u = tt
-possible st len ev (Move i e) l u = (ready_kept st.table i e len l.1 l.2.channels u l.2.sound, u)
 possible st len ev TookExchange l u = tt
 possible st len ev TookSip l u = tt

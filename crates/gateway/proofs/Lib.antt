@@ -2,4 +2,3 @@ pub mod Channels
 pub mod Unseizing
 pub mod Ways
 pub mod Seizures
-pub mod Invites

@@ -1,21 +1,21 @@
 -- Effects that enter a seized channel, and what the wish for one gets.
-use Rattle.std.proofs.Common.{◌≡◌, ℕ, ◌<◌, Bool, true, false, cond, List, length, get_or, Some, None, Option, sym, refl, ap, ◌∙◌, subst, arith}
+use Rattle.std.proofs.Common.{◌≡◌, ℕ, ◌<◌, Bool, true, false, cond, List, length, get_or, Some, None, Ok, Err, Option, Result, sym, refl, ap, ◌∙◌, subst, arith}
 use Rattle.std.proofs.lemmas.Bool.{cond-false, cond_both, eqb-true}
 use Rattle.std.proofs.lemmas.Bool.Decides.{nat_tests}
+use Rattle.refusals.specs.declared.Ground.{Ground}
 use Rattle.messages.specs.declared.record.Channel.{Channel}
 use Rattle.messages.specs.declared.record.Message.{Message}
 use Rattle.messages.specs.Elements.{DigitsPart}
-use Rattle.pools.specs.States.{idle, AnyWasIdle}
+use Rattle.pools.specs.States.{States, idle, AnyWasIdle}
 use Rattle.calls.specs.declared.record.Call.{Call}
 use Rattle.calls.specs.declared.sides.ExchangeSide.{ExchangeSide}
 use Rattle.calls.specs.Sides.{stage, is_in, is_over}
 use Rattle.calls.specs.Standing.{is_sound, sides_agree, SoundAt}
-use Rattle.calls.specs.Effects.{Effect, Ruling, Refuses, Does, tries_again, on_type, begins, is_whole, heard_digits}
-use Rattle.calls.specs.Rules.{State, Outcome, Move, Did, TakeExchange, at, rejects, takes_any, wishes, seats, answer_of, applied}
-use Rattle.calls.specs.declared.answers.Answer.{Answer}
-use Rattle.calls.proofs.Choices.{Bounded, fair_pick, fair_place}
+use Rattle.calls.specs.Effects.{Effect, misdialled, tries_again, on_type, begins, is_whole, called_digits}
+use Rattle.calls.specs.Rules.{State, at, granted, seated, admitted, on_setup}
+use Rattle.calls.specs.Laws.{NoneOfThese}
+use Rattle.calls.proofs.Choices.{Bounded, fair_pick}
 use Rattle.calls.proofs.Balance.{Balanced}
-use Rattle.calls.proofs.Dids.{did}
 use Rattle.calls.proofs.Locals.{Keeps, tries_again_lem, on_type_lem}
 use Rattle.calls.proofs.Places.{everywhere_at}
 use Rattle.calls.proofs.Sounds.{sound_everywhere, sound_tested}
@@ -23,7 +23,7 @@ use Rattle.call_table.specs.declared.token.Token.{Token}
 use Rattle.call_table.specs.Tokens.{token_channel, token_of}
 use Rattle.call_table.specs.Records.{holding}
 use Rattle.call_table.specs.Wishes.{WishGets}
-use Rattle.decisions.specs.Outcomes.{busy_cause, wants_another}
+use Rattle.decisions.specs.Outcomes.{wants_another}
 use Rattle.gateway.specs.Stands.{Ready, Possible, Granted}
 use Rattle.gateway.proofs.Channels.{Unseizing, ready_kept}
 use Rattle.gateway.proofs.Unseizing.{type_still, unpicked}
@@ -34,9 +34,9 @@ module _ (st : State) (len : length st.table ≡ 64) (sound : is_sound st.table 
   sound_call = subst SoundAt here (everywhere_at SoundAt tt st.table i (sound_everywhere st.table sound))
 
   -- a balance at the call is one at its place
-  placed : (e : Effect) → Balanced st.pool (Some k) TakeExchange e → e.seized ≡ None → Ready st.table i e.after e.released None
+  placed : (e : Effect) → Balanced st.pool (Some k) NoneOfThese e → e.seized ≡ None → Ready st.table i e.after e.released None
   placed e b none =
-      let z = subst (λ (o : Option Call). Balanced st.pool o TakeExchange e) (sym here) b in
+      let z = subst (λ (o : Option Call). Balanced st.pool o NoneOfThese e) (sym here) b in
       ready_kept st.table i e len (omega (arith, len, inside)) z.channels none z.sound
 
   again_some : (t : Token) → SoundAt (tries_again (Some t.channel) k).after → is_over k.exchange ≡ false → Ready st.table i (tries_again (Some t.channel) k).after (tries_again (Some t.channel) k).released (Some t)
@@ -53,22 +53,22 @@ module _ (st : State) (len : length st.table ≡ 64) (sound : is_sound st.table 
   ready_again waits None h =
       let five : stage k.exchange ≡ 5 = eqb-true _ _ waits in
       let live : is_over k.exchange ≡ false = grind (arith, nat_tests) in
-      placed (tries_again None k) (tries_again_lem st.pool TakeExchange (λ t. refl) (λ d. refl) k sound_call live None h (omega arith)) refl
+      placed (tries_again None k) (tries_again_lem st.pool NoneOfThese (λ t. refl) (λ d. refl) k sound_call live None h (omega arith)) refl
   ready_again waits (Some t) h =
       let five : stage k.exchange ≡ 5 = eqb-true _ _ waits in
       let live : is_over k.exchange ≡ false = grind (arith, nat_tests) in
-      again_some t (tries_again_lem st.pool TakeExchange (λ t. refl) (λ d. refl) k sound_call live (Some t.channel) h (omega arith)).sound live
+      again_some t (tries_again_lem st.pool NoneOfThese (λ t. refl) (λ d. refl) k sound_call live (Some t.channel) h (omega arith)).sound live
 
-  ruled : (r : Ruling) → Keeps st.pool k TakeExchange r → Unseizing (at i r) → Possible st.table (at i r)
-  ruled (Refuses g) b u = tt
-  ruled (Does e) b u = (placed e b u, u)
+  ruled : (r : Result Effect Ground) → Keeps st.pool k NoneOfThese r → Unseizing (at i r) → Possible st.table (at i r)
+  ruled (Err ground) b u = tt
+  ruled (Ok e) b u = (placed e b u, u)
 
   -- a message that asks for no other channel
   pub possible_at : Bounded st.pool → is_over k.exchange ≡ false → (full : ℕ) (m : Message DigitsPart) → wants_another m k ≡ false → Possible st.table (at i (on_type full None m k m.kind))
   possible_at b live full m e =
       let p = fair_pick st.pool b in
       ruled (on_type full None m k m.kind)
-      (subst (Keeps st.pool k TakeExchange) (unpicked full p.0 m k e) (on_type_lem st.pool TakeExchange (λ t. refl) (λ d. refl) k sound_call live full p.0 p.1 m m.kind))
+      (subst (Keeps st.pool k NoneOfThese) (unpicked full p.0 m k e) (on_type_lem st.pool NoneOfThese (λ t. refl) (λ d. refl) k sound_call live full p.0 p.1 m m.kind))
       (type_still full i m k m.kind)
 
 -- what a retry seizes is what was picked
@@ -86,42 +86,22 @@ module _ (places : List (Option Call)) (i : ℕ) (inside : i < 64) (free : get_o
 
   pub ready_begins : (full : ℕ) (m : Message DigitsPart) (n : ℕ) → EntersAt (begins full m n t.channel)
   ready_begins full m n =
-      cond_both (is_whole full m (heard_digits m)) _ _ EntersAt
+      cond_both (is_whole full m.elements.complete (length (called_digits m))) _ _ EntersAt
       (λ _. record { inside = inside; enters = refl; leaves = out; sound = refl }) (λ _. record { inside = inside; enters = refl; leaves = out; sound = refl })
 
 pub begins_seizes : (full : ℕ) (m : Message DigitsPart) (n c : ℕ) → (begins full m n c).seized ≡ Some c
-begins_seizes full m n c = cond_both (is_whole full m (heard_digits m)) _ _ (λ (e : Effect). e.seized ≡ Some c) (λ _. refl) (λ _. refl)
+begins_seizes full m n c = cond_both (is_whole full m.elements.complete (length (called_digits m))) _ _ (λ (e : Effect). e.seized ≡ Some c) (λ _. refl) (λ _. refl)
 
 -- ---------------------------------------------------------------- wishes
-module _ (st : State) (b : Bounded st.pool) (m : Message DigitsPart) (i n : ℕ) where
-  -- what a wish that got this channel, or none, comes to; a wish that got none is answered with this cause
-  abbrev pub given : ℕ → Option ℕ → Outcome
-  given v None = rejects m v
-  given v (Some c) = Move i (begins st.full m n c)
+module _ (pool : States) (b : Bounded pool) (got : Option ℕ) where
+  by_wish : (w : ℕ) (free alone : Bool) → WishGets free alone w pool got → (pick : Option ℕ) × (AnyWasIdle pick pool) × (cond free (Some w) (cond alone None pick) ≡ got)
+  by_wish w true alone h = let p = fair_pick pool b in (p.0, p.1, sym h)
+  by_wish w false true h = let p = fair_pick pool b in (p.0, p.1, sym h)
+  by_wish w false false h = (got, h, refl)
 
-  abbrev Picked : (Option ℕ → Outcome) → Outcome → Type 0
-  Picked rule o = (pick : Option ℕ) × (AnyWasIdle pick st.pool) × (rule pick ≡ o)
+  pub granted_by : (w : Channel) → WishGets (idle (pool w.number)) w.exclusive w.number pool got → Granted pool (Some w) got
+  granted_by w h = let p = by_wish w.number (idle (pool w.number)) w.exclusive h in record { pick = p.0; fair = p.1; as_granted = p.2 }
 
-  by_wish : (w : ℕ) (x e : Bool) (got : Option ℕ) → WishGets x e w st.pool got → Picked (λ pick. cond x (Move i (begins st.full m n w)) (cond e (rejects m 44) (takes_any st.full m i n pick))) (given (cond e 44 34) got)
-  by_wish w true e got h = let p = fair_pick st.pool b in (p.0, p.1, sym (ap (given (cond e 44 34)) h))
-  by_wish w false true got h = let p = fair_pick st.pool b in (p.0, p.1, sym (ap (given 44) h))
-  by_wish w false false None h = (None, h, refl)
-  by_wish w false false (Some c) h = (Some c, h, refl)
-
-  pub wished : (wish : Option Channel) (got : Option ℕ) → Granted st.pool wish got → Picked (λ pick. wishes st pick m i n wish) (given (busy_cause wish) got)
-  wished None None h = (None, h, refl)
-  wished None (Some c) h = (Some c, h, refl)
-  wished (Some w) got h = by_wish w.number (idle (st.pool w.number)) w.exclusive got h
-
-  -- with whatever place of the table
-  pub with_place : (wish : Option Channel) (o : Outcome) → Picked (λ pick. wishes st pick m i n wish) o → {a : Answer} {st' : State} → a ≡ answer_of st o → st' ≡ applied st o → Did st (λ ch. wishes st ch.pick m i n wish) a st'
-  with_place wish o w p q =
-      let place = fair_place st.table in
-      did st (λ ch. wishes st ch.pick m i n wish) (record { pick = w.0; place = place.0 }) (record { pick = w.1; place = place.1 }) o w.2 p q
-
-  -- the rest of the rule of SETUP, at this place with this number
-  pub seated : (isBad : Bool) → isBad ≡ false → i < length st.table → get_or st.table i None ≡ None → st.next ≡ Some n → {a : Answer} {st' : State} → Did st (λ ch. wishes st ch.pick m i n m.elements.channel) a st' → Did st (λ ch. cond isBad (rejects m 28) (seats st ch.pick m ch.place st.next)) a st'
-  seated isBad good inside free next d =
-      let pick = d.choice.pick in
-      did st _ (record { pick = pick; place = Some i }) (record { pick = d.fair.pick; place = (inside, free) }) (wishes st pick m i n m.elements.channel)
-      (cond-false isBad (rejects m 28) (seats st pick m (Some i) st.next) good ∙ ap (seats st pick m (Some i)) next) d.answer d.after
+-- the rule of a SETUP at a free place with a number, where its digits can be a number
+pub seated_by : (st : State) (m : Message DigitsPart) (pick : Option ℕ) (i n : ℕ) → misdialled m ≡ false → st.next ≡ Some n → on_setup st (record { pick = pick; place = Some i }) m ≡ seated st.full m i n (granted st.pool pick m.elements.channel)
+seated_by st m pick i n good next = cond-false (misdialled m) _ _ good ∙ ap (admitted st pick m (Some i)) next

@@ -11,10 +11,12 @@ use Rattle.calls.specs.declared.answers.Refused.{Refused}
 use Rattle.calls.specs.declared.answers.Report.{Report}
 use Rattle.calls.specs.Refusing.{placeless}
 use Rattle.calls.specs.declared.record.Call.{Call}
+use Rattle.calls.specs.declared.record.Found.{Found}
 use Rattle.calls.specs.declared.outgoing.SipMessage.{SipMessage}
 use Rattle.calls.specs.declared.record.Digits.{Digits}
 use Rattle.calls.specs.Standing.{is_sound}
-use Rattle.calls.specs.Rules.{State, Choice, Event, Outcome, Reply, refuse, outcome, roomed, is_roomy, applied, Did, Found, seek, by_reference}
+use Rattle.calls.specs.Rules.{State, Choice, Event, Outcome, Reply, refuse, outcome, roomed, is_roomy, applied, Did, seek, by_reference}
+use Rattle.calls.specs.Laws.{brought_by}
 use Rattle.calls.proofs.Choices.{Bounded, fair_choice}
 use Rattle.calls.proofs.Dids.{plainly}
 use Rattle.calls.proofs.Sounds.{sound_everywhere}
@@ -34,8 +36,8 @@ module _ (st : State) where
   pub possible_step : length st.table ≡ 64 → is_sound st.table ≡ true → Bounded st.pool → (ev : Event) (o o' : Outcome) → o' ≡ o → ((ch : Choice) → outcome st ch ev ≡ roomed st o) → Unseizing o → is_roomy st ≡ true → Possible st.table o'
   possible_step len s b ev o o' p e u r =
       let w = fair_choice st b in
-      let l = subst (Lawful st ev) (e w.0 ∙ cond-true (is_roomy st) o (refuse Ground.QueueFull) r) (lawful st (sound_everywhere st.table s) w.0 w.1 ev) in
-      subst (Possible st.table) (sym p) (possible st len ev o l u)
+      let l = subst (Lawful st (brought_by ev)) (e w.0 ∙ cond-true (is_roomy st) o (refuse Ground.QueueFull) r) (lawful st (sound_everywhere st.table s) w.0 w.1 ev) in
+      subst (Possible st.table) (sym p) (possible st len (brought_by ev) o l u)
 
   -- without room, whatever the rule
   pub full_refused : (rule : Choice → Outcome) → Bounded st.pool → is_roomy st ≡ false → {a : Answer} → a ≡ Answer.Step (Err (placeless Ground.QueueFull)) → Did st (λ ch. roomed st (rule ch)) a st

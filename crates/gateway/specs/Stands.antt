@@ -1,19 +1,22 @@
 -- What a gateway and its two queues stand for among the states of the rules.
-use Rattle.std.specs.Prelude.{◌≡◌, ℕ, ◌-◌, ◌<◌, ◌≤◌, Bool, true, ◌&&◌, List, [], length, Some, None, Option, nat_le, slice_index_or}
+use Rattle.std.specs.Prelude.{◌≡◌, ℕ, ◌<◌, ◌≤◌, Bool, true, List, [], Some, None, Option, slice_index_or}
 use Rattle.messages.specs.declared.record.Channel.{Channel}
+use Rattle.messages.specs.declared.record.Message.{Message}
+use Rattle.messages.specs.Elements.{DigitsPart}
 use Rattle.pools.specs.declared.pool.Pool.{Ghosts}
-use Rattle.pools.specs.States.{States, idle, AnyWasIdle}
+use Rattle.pools.specs.States.{States, after_any, AnyWasIdle}
 use Rattle.queues.specs.Waiting.{waiting, room}
 use Rattle.calls.specs.declared.record.Call.{Call}
 use Rattle.calls.specs.Standing.{is_sound_at}
-use Rattle.calls.specs.Rules.{State, Outcome, Refuse, Reply, Move, TookExchange, TookSip}
+use Rattle.calls.specs.Rules.{State, Choice, Fair, Outcome, Change, has_room, granted, rejects, on_setup}
 use Rattle.calls.specs.Run.{Opening, Run}
+use Rattle.effects.specs.Moves.{effect_of}
 use Rattle.call_table.specs.declared.token.Token.{Token}
 use Rattle.call_table.specs.Tokens.{token_channel}
 use Rattle.call_table.specs.Records.{Enters, left}
-use Rattle.call_table.specs.Wishes.{WishGets}
 use Rattle.gateway.specs.declared.gateway.Gateway.{Gateway}
 use Rattle.gateway.specs.declared.outgoing.Outgoing.{Outgoing}
+use Rattle.gateway.specs.declared.setup.NewCall.{NewCall}
 
 -- its calls, the meaning of its pool, what waits in the queues and how much can wait, the next number and the full length
 abbrev pub state_of : {P : Type 0} {G : Ghosts P} → (P → States) → Gateway P G → Outgoing → State
@@ -22,7 +25,7 @@ state_of state g queues =
 
 -- two messages find a place in either queue
 abbrev pub has_two_places : Outgoing → Bool
-has_two_places queues = nat_le 2 (room queues.exchange - length (waiting queues.exchange)) && nat_le 2 (room queues.sip - length (waiting queues.sip))
+has_two_places queues = has_room (waiting queues.exchange) (room queues.exchange) (waiting queues.sip) (room queues.sip)
 
 -- the settings that make a gateway: a full number has 1 to 20 digits, and the first number is not 0
 abbrev pub InRange : ℕ → ℕ → Type 0
@@ -42,13 +45,27 @@ pub record Ready (places : List (Option Call)) (place : ℕ) (after : Option Cal
 
 -- an outcome that seizes nothing can be carried out
 abbrev pub Possible : List (Option Call) → Outcome → Type 0
-Possible places (Refuse r) = Unit {0}
-Possible places (Reply ms ss) = Unit {0}
-Possible places (Move i e) = Ready places i e.after e.released None × (e.seized ≡ None)
-Possible places TookExchange = Unit {0}
-Possible places TookSip = Unit {0}
+Possible places (Change i e) = Ready places i e.after e.released None × (e.seized ≡ None)
+Possible places _ = Unit {0}
 
--- what the wish for a channel gets; a SETUP that is read names one
-abbrev pub Granted : States → Option Channel → Option ℕ → Type 0
-Granted s None got = AnyWasIdle got s
-Granted s (Some w) got = WishGets (idle (s w.number)) w.exclusive w.number s got
+-- the channel that a wish got, or none: what the rules grant it, whichever idle channel is picked
+pub record Granted (s : States) (wish : Option Channel) (got : Option ℕ) : Type 0 where
+  pub pick : Option ℕ
+  pub fair : AnyWasIdle pick s
+  pub as_granted : granted s pick wish ≡ got
+
+-- what comes of a SETUP that finds no call, by the rule of it and whatever is picked: the cause with which it is rejected, or a
+-- new call whose channel is seized
+pub record Rejected (st : State) (m : Message DigitsPart) (pool : States) (cause : ℕ) : Type 0 where
+  pub choice : Choice
+  pub fair : Fair st choice
+  pub by_the_rule : on_setup st choice m ≡ rejects m cause
+  pub no_channel_seized : (k : ℕ) → pool k ≡ st.pool k
+
+pub record Admitted (st : State) (m : Message DigitsPart) (pool : States) (new : NewCall) : Type 0 where
+  pub choice : Choice
+  pub fair : Fair st choice
+  pub by_the_rule : on_setup st choice m ≡ Change new.place (effect_of new.effect)
+  pub channel_of_the_token : (effect_of new.effect).seized ≡ Some new.token.channel
+  pub that_channel_seized : (k : ℕ) → pool k ≡ after_any (Some new.token.channel) st.pool k
+  pub ready : Ready st.table new.place new.effect.after new.effect.report.released (Some new.token)

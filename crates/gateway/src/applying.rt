@@ -6,12 +6,12 @@ ghost use Rattle.effects.specs.Moves.{effect_of};
 ghost use Rattle.gateway.specs.Stands.{state_of, Ready};
 
 use crate::gateway::Gateway;
+use crate::number::following;
 use crate::outgoing::Outgoing;
-use calls::Report;
 use call_table::{Token, Trunk};
+use calls::Report;
 use effects::Effect;
 use pools::Pool;
-use sip_rules::following;
 
 /// The channel that a place no longer holds is released.
 fn give_back<P: Pool>(trunk: &mut Trunk<P>, left: Option<Token>)

@@ -4,8 +4,8 @@ ghost use Rattle.refusals.specs.declared.Ground.TheVariants.{SettingOutOfRange};
 ghost use Rattle.gateway.specs.Stands.{InRange, Begins};
 
 use crate::gateway::Gateway;
-use calls::Call;
 use call_table::{Table, Trunk};
+use calls::Call;
 use pools::Pool;
 use refusals::Ground;
 

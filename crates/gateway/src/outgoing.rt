@@ -2,16 +2,16 @@
 ghost use Rattle.std.specs.Prelude.{◌≡◌, ◌≤◌, [], ◌∷◌, ◌++◌, length, true, false, MatchResult};
 ghost use Rattle.queues.specs.Few.{few_items};
 ghost use Rattle.queues.specs.Waiting.{waiting, room, free};
-ghost use Rattle.calls.specs.declared.outgoing.SipMessage.TheVariants.{Response};
+ghost use Rattle.calls.specs.declared.outgoing.SipMessage.{SipMessage};
 ghost use Rattle.refusals.specs.declared.Ground.TheVariants.{QueueFull};
 ghost use Rattle.calls.specs.Refusing.{placeless};
-ghost use Rattle.calls.specs.Rules.{quiet as quiet_report};
-ghost use Rattle.effects.specs.Answering.{rejecting};
+ghost use Rattle.calls.specs.Rules.{quiet};
+ghost use Rattle.calls.specs.Effects.{rejection};
 ghost use Rattle.gateway.specs.Stands.{has_two_places};
 
 use calls::{Digits, Refused, Report, SipMessage};
-use messages::{CallReference, Message};
 use effects::rejection;
+use messages::{CallReference, Message};
 use queues::few::Few;
 use queues::queue::Queue;
 use refusals::Ground;
@@ -69,9 +69,9 @@ pub(crate) fn reject(
     value: u8,
 ) -> Report
     requires room { 2 ≤ free exchange.old }
-    ensures report { result ≡ quiet_report }
+    ensures report { result ≡ quiet }
     ensures size { room exchange.new ≡ room exchange.old }
-    ensures list { waiting exchange.new ≡ waiting exchange.old ++ rejecting reference value ∷ [] }
+    ensures list { waiting exchange.new ≡ waiting exchange.old ++ rejection reference value ∷ [] }
 {
     exchange.add(rejection(reference, value));
     Report::default()
@@ -80,9 +80,9 @@ pub(crate) fn reject(
 /// The final response to an INVITE that makes no call.
 pub(crate) fn respond(sip: &mut Queue<'_, SipMessage>, transaction: u64, status: u16) -> Report
     requires room { 2 ≤ free sip.old }
-    ensures report { result ≡ quiet_report }
+    ensures report { result ≡ quiet }
     ensures size { room sip.new ≡ room sip.old }
-    ensures list { waiting sip.new ≡ waiting sip.old ++ Response transaction status ∷ [] }
+    ensures list { waiting sip.new ≡ waiting sip.old ++ SipMessage.Response transaction status ∷ [] }
 {
     sip.add(SipMessage::Response {
         transaction,

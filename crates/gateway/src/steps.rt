@@ -1,9 +1,10 @@
-//! One call for each kind of event, and the two takings.
+//! One call for each kind of event, and two that take a message.
 ghost use Rattle.std.specs.Prelude.{◌≡◌, true, false, OnErr};
-ghost use Rattle.calls.specs.declared.answers.Answer.TheVariants.{Step, Exchange as took_exchange, Sip as took_sip};
+ghost use Rattle.calls.specs.declared.answers.Answer.{Answer};
 ghost use Rattle.calls.specs.Sides.{is_over};
 ghost use Rattle.calls.specs.Effects.{on_type};
-ghost use Rattle.calls.specs.Rules.{Did, Stepped, Event, Outcome, Choice, outcome, Exchange as the_message, Invite as the_invite, Cancel, Bye, Response as the_response, Expiry as the_expiry, CancelExpiry, TakeExchange, TakeSip, at as at_place, seek, by_reference, on_message, uncalled, roomed, is_roomy, answer_of, applied};
+ghost use Rattle.calls.specs.Rules.{Did, Stepped, Event, Choice, outcome, at, seek, by_reference, on_message, uncalled, roomed, is_roomy, answer_of, applied};
+ghost use Rattle.calls.specs.Rules as rules;
 ghost use Rattle.call_table.specs.Keys.{Within};
 ghost use Rattle.reader.specs.Seen.{seen_record};
 ghost use Rattle.decisions.specs.Outcomes.{outcome_of};
@@ -11,12 +12,12 @@ ghost use Rattle.gateway.specs.Stands.{state_of, Possible};
 
 use crate::gateway::Gateway;
 use crate::outgoing::{Outgoing, respond};
-use calls::{Digits, Invite, Refused, Report, Response, SipMessage, Timer};
+use call_table::Key;
+use calls::{Digits, Found, Invite, Refused, Report, Response, SipMessage, Timer};
 use decisions::{
-    Action, is_status, on_bye, on_cancel, on_expiry_of, on_expiry_of_cancel, on_heard, on_response,
-    screen, turned_away, wants_another,
+    Outcome, at_its_call, is_status, on_bye, on_cancel, on_expiry_of, on_expiry_of_cancel,
+    on_response, screen, turned_away, wants_another,
 };
-use call_table::{Found, Key};
 use messages::{CallReference, Message, Part};
 use pools::Pool;
 use reader::read;
@@ -27,33 +28,33 @@ impl<P: Pool> Gateway<P> {
     /// What was decided happens; there is room for it.
     fn settle(
         &mut self,
-        decision: Result<Action, Ground>,
+        decision: Result<Outcome, Ground>,
         queues: &mut Outgoing<'_>,
     ) -> Result<Report, Refused>
         requires possible { Possible self.old.table.places (outcome_of decision) }
         requires roomy { is_roomy (state_of P.Pool.state self.old queues.old) ≡ true }
         ensures refusal_leaves_all { OnErr result ((self.new ≡ self.old) × (queues.new ≡ queues.old)) }
-        ensures answer_of_the_outcome { Step result ≡ answer_of (state_of P.Pool.state self.old queues.old) (outcome_of decision) }
+        ensures answer_of_the_outcome { Answer.Step result ≡ answer_of (state_of P.Pool.state self.old queues.old) (outcome_of decision) }
         ensures outcome_applied { state_of P.Pool.state self.new queues.new ≡ applied (state_of P.Pool.state self.old queues.old) (outcome_of decision) }
     {
         match decision? {
-            Action::Reply { exchange, sip } => {
+            Outcome::Reply { exchange, sip } => {
                 queues.send(exchange, sip);
                 Ok(Report::default())
             }
-            Action::Move { place, effect } => Ok(self.apply(queues, place, effect, None)),
+            Outcome::Change { place, effect } => Ok(self.apply(queues, place, effect, None)),
         }
     }
 
     /// What was decided happens if there is room.
     fn carry_out(
         &mut self,
-        decision: Result<Action, Ground>,
+        decision: Result<Outcome, Ground>,
         queues: &mut Outgoing<'_>,
     ) -> Result<Report, Refused>
         requires possible_with_room { is_roomy (state_of P.Pool.state self.old queues.old) ≡ true → Possible self.old.table.places (outcome_of decision) }
         ensures refusal_leaves_all { OnErr result ((self.new ≡ self.old) × (queues.new ≡ queues.old)) }
-        ensures a_step_of_each_event_that_comes_to_it { (event : Event) (outcome_is : Outcome) → outcome_of decision ≡ outcome_is → ((ch : Choice) → outcome (state_of P.Pool.state self.old queues.old) ch event ≡ roomed (state_of P.Pool.state self.old queues.old) outcome_is) → Stepped (state_of P.Pool.state self.old queues.old) event (Step result) (state_of P.Pool.state self.new queues.new) }
+        ensures a_step_of_each_event_that_comes_to_it { (event : Event) (outcome_is : rules.Outcome) → outcome_of decision ≡ outcome_is → ((ch : Choice) → outcome (state_of P.Pool.state self.old queues.old) ch event ≡ roomed (state_of P.Pool.state self.old queues.old) outcome_is) → Stepped (state_of P.Pool.state self.old queues.old) event (Answer.Step result) (state_of P.Pool.state self.new queues.new) }
     {
         queues.need_room()?;
         self.settle(decision, queues)
@@ -62,7 +63,7 @@ impl<P: Pool> Gateway<P> {
     /// CANCEL of an INVITE that came.
     pub fn cancel(&mut self, transaction: u64, queues: &mut Outgoing<'_>) -> Result<Report, Refused>
         ensures refusal_leaves_all { OnErr result ((self.new ≡ self.old) × (queues.new ≡ queues.old)) }
-        ensures steps_by_the_rules { Stepped (state_of P.Pool.state self.old queues.old) (Cancel transaction) (Step result) (state_of P.Pool.state self.new queues.new) }
+        ensures steps_by_the_rules { Stepped (state_of P.Pool.state self.old queues.old) (Event.Cancel transaction) (Answer.Step result) (state_of P.Pool.state self.new queues.new) }
     {
         let decision = on_cancel(&self.table, transaction);
         self.carry_out(decision, queues)
@@ -71,7 +72,7 @@ impl<P: Pool> Gateway<P> {
     /// BYE on a dialogue.
     pub fn bye(&mut self, dialogue: u64, queues: &mut Outgoing<'_>) -> Result<Report, Refused>
         ensures refusal_leaves_all { OnErr result ((self.new ≡ self.old) × (queues.new ≡ queues.old)) }
-        ensures steps_by_the_rules { Stepped (state_of P.Pool.state self.old queues.old) (Bye dialogue) (Step result) (state_of P.Pool.state self.new queues.new) }
+        ensures steps_by_the_rules { Stepped (state_of P.Pool.state self.old queues.old) (Event.Bye dialogue) (Answer.Step result) (state_of P.Pool.state self.new queues.new) }
     {
         let decision = on_bye(&self.table, dialogue);
         self.carry_out(decision, queues)
@@ -84,7 +85,7 @@ impl<P: Pool> Gateway<P> {
         queues: &mut Outgoing<'_>,
     ) -> Result<Report, Refused>
         ensures refusal_leaves_all { OnErr result ((self.new ≡ self.old) × (queues.new ≡ queues.old)) }
-        ensures steps_by_the_rules { Stepped (state_of P.Pool.state self.old queues.old) (the_response response.number response.status response.dialogue response.media) (Step result) (state_of P.Pool.state self.new queues.new) }
+        ensures steps_by_the_rules { Stepped (state_of P.Pool.state self.old queues.old) (Event.Response response.number response.status response.dialogue response.media) (Answer.Step result) (state_of P.Pool.state self.new queues.new) }
     {
         if !is_status(response.status) {
             return Err(Refused::from(Ground::StatusOutOfRange));
@@ -101,7 +102,7 @@ impl<P: Pool> Gateway<P> {
         queues: &mut Outgoing<'_>,
     ) -> Result<Report, Refused>
         ensures refusal_leaves_all { OnErr result ((self.new ≡ self.old) × (queues.new ≡ queues.old)) }
-        ensures steps_by_the_rules { Stepped (state_of P.Pool.state self.old queues.old) (the_expiry timer reference) (Step result) (state_of P.Pool.state self.new queues.new) }
+        ensures steps_by_the_rules { Stepped (state_of P.Pool.state self.old queues.old) (Event.Expiry timer reference) (Answer.Step result) (state_of P.Pool.state self.new queues.new) }
     {
         let decision = on_expiry_of(&self.table, timer, reference);
         self.carry_out(decision, queues)
@@ -114,7 +115,7 @@ impl<P: Pool> Gateway<P> {
         queues: &mut Outgoing<'_>,
     ) -> Result<Report, Refused>
         ensures refusal_leaves_all { OnErr result ((self.new ≡ self.old) × (queues.new ≡ queues.old)) }
-        ensures steps_by_the_rules { Stepped (state_of P.Pool.state self.old queues.old) (CancelExpiry number) (Step result) (state_of P.Pool.state self.new queues.new) }
+        ensures steps_by_the_rules { Stepped (state_of P.Pool.state self.old queues.old) (Event.CancelExpiry number) (Answer.Step result) (state_of P.Pool.state self.new queues.new) }
     {
         let decision = on_expiry_of_cancel(&self.table, number);
         self.carry_out(decision, queues)
@@ -131,12 +132,12 @@ impl<P: Pool> Gateway<P> {
         requires live { is_over found.call.exchange ≡ false }
         requires roomy { is_roomy (state_of P.Pool.state self.old queues.old) ≡ true }
         ensures refusal_leaves_all { OnErr result ((self.new ≡ self.old) × (queues.new ≡ queues.old)) }
-        ensures by_type_and_state { Did (state_of P.Pool.state self.old queues.old) (λ ch. at_place found.place (on_type self.old.full ch.pick (seen_record message.entry) found.call message.entry.kind)) (Step result) (state_of P.Pool.state self.new queues.new) }
+        ensures by_type_and_state { Did (state_of P.Pool.state self.old queues.old) (λ ch. at found.place (on_type self.old.full ch.pick (seen_record message.entry) found.call message.entry.kind)) (Answer.Step result) (state_of P.Pool.state self.new queues.new) }
     {
         if wants_another(message, found.call) {
             Ok(self.retry(found, queues))
         } else {
-            let decision = on_heard(self.full, message, found);
+            let decision = at_its_call(self.full, message, found);
             self.settle(decision, queues)
         }
     }
@@ -149,23 +150,23 @@ impl<P: Pool> Gateway<P> {
     ) -> Result<Report, Refused>
         requires roomy { is_roomy (state_of P.Pool.state self.old queues.old) ≡ true }
         ensures refusal_leaves_all { OnErr result ((self.new ≡ self.old) × (queues.new ≡ queues.old)) }
-        ensures begun_or_turned_away { Did (state_of P.Pool.state self.old queues.old) (λ ch. uncalled (state_of P.Pool.state self.old queues.old) ch (seen_record message.entry) message.entry.kind) (Step result) (state_of P.Pool.state self.new queues.new) }
+        ensures begun_or_turned_away { Did (state_of P.Pool.state self.old queues.old) (λ ch. uncalled (state_of P.Pool.state self.old queues.old) ch (seen_record message.entry) message.entry.kind) (Answer.Step result) (state_of P.Pool.state self.new queues.new) }
     {
         if message.kind.is_setup() {
-            Ok(self.begin(message, queues))
+            Ok(self.on_setup(message, queues))
         } else {
             self.settle(turned_away(message), queues)
         }
     }
 
     /// A message that was read.
-    fn hear(
+    fn on_message(
         &mut self,
         message: Message<Part<'_>>,
         queues: &mut Outgoing<'_>,
     ) -> Result<Report, Refused>
         ensures refusal_leaves_all { OnErr result ((self.new ≡ self.old) × (queues.new ≡ queues.old)) }
-        ensures by_the_rules { Did (state_of P.Pool.state self.old queues.old) (λ ch. roomed (state_of P.Pool.state self.old queues.old) (on_message (state_of P.Pool.state self.old queues.old) ch (seen_record message.entry) (seek (by_reference message.entry.reference) self.old.table.places))) (Step result) (state_of P.Pool.state self.new queues.new) }
+        ensures by_the_rules { Did (state_of P.Pool.state self.old queues.old) (λ ch. roomed (state_of P.Pool.state self.old queues.old) (on_message (state_of P.Pool.state self.old queues.old) ch (seen_record message.entry) (seek (by_reference message.entry.reference) self.old.table.places))) (Answer.Step result) (state_of P.Pool.state self.new queues.new) }
     {
         queues.need_room()?;
         match self.table.find(Key::Reference(message.reference)) {
@@ -177,10 +178,10 @@ impl<P: Pool> Gateway<P> {
     /// Octets from the exchange.
     pub fn message(&mut self, octets: &[u8], queues: &mut Outgoing<'_>) -> Result<Report, Refused>
         ensures refusal_leaves_all { OnErr result ((self.new ≡ self.old) × (queues.new ≡ queues.old)) }
-        ensures steps_by_the_rules { Stepped (state_of P.Pool.state self.old queues.old) (the_message octets.now) (Step result) (state_of P.Pool.state self.new queues.new) }
+        ensures steps_by_the_rules { Stepped (state_of P.Pool.state self.old queues.old) (Event.Exchange octets.now) (Answer.Step result) (state_of P.Pool.state self.new queues.new) }
     {
         let message = read(octets)?;
-        self.hear(message, queues)
+        self.on_message(message, queues)
     }
 
     /// INVITE.
@@ -190,7 +191,7 @@ impl<P: Pool> Gateway<P> {
         queues: &mut Outgoing<'_>,
     ) -> Result<Report, Refused>
         ensures refusal_leaves_all { OnErr result ((self.new ≡ self.old) × (queues.new ≡ queues.old)) }
-        ensures steps_by_the_rules { Stepped (state_of P.Pool.state self.old queues.old) (the_invite invite.entry.transaction invite.entry.dialogue invite.entry.digits.now) (Step result) (state_of P.Pool.state self.new queues.new) }
+        ensures steps_by_the_rules { Stepped (state_of P.Pool.state self.old queues.old) (Event.Invite invite.entry.transaction invite.entry.dialogue invite.entry.digits.now) (Answer.Step result) (state_of P.Pool.state self.new queues.new) }
     {
         queues.need_room()?;
         screen(&self.table, invite)?;
@@ -200,10 +201,10 @@ impl<P: Pool> Gateway<P> {
         }
     }
 
-    // The takings stay two: each promises what becomes of the other queue, and its answer is of its own kind.
+    // These stay two: each promises what becomes of the other queue, and its answer is of its own kind.
     /// The oldest message for the exchange is taken.
     pub fn take_exchange(&self, queues: &mut Outgoing<'_>) -> Option<Message<Digits>>
-        ensures steps_by_the_rules { Stepped (state_of P.Pool.state self.now queues.old) TakeExchange (took_exchange result) (state_of P.Pool.state self.now queues.new) }
+        ensures steps_by_the_rules { Stepped (state_of P.Pool.state self.now queues.old) Event.TakeExchange (Answer.Exchange result) (state_of P.Pool.state self.now queues.new) }
         ensures leaves_the_other_queue { queues.new.sip ≡ queues.old.sip }
     {
         queues.exchange.take()
@@ -211,7 +212,7 @@ impl<P: Pool> Gateway<P> {
 
     /// The oldest message for SIP is taken.
     pub fn take_sip(&self, queues: &mut Outgoing<'_>) -> Option<SipMessage>
-        ensures steps_by_the_rules { Stepped (state_of P.Pool.state self.now queues.old) TakeSip (took_sip result) (state_of P.Pool.state self.now queues.new) }
+        ensures steps_by_the_rules { Stepped (state_of P.Pool.state self.now queues.old) Event.TakeSip (Answer.Sip result) (state_of P.Pool.state self.now queues.new) }
         ensures leaves_the_other_queue { queues.new.exchange ≡ queues.old.exchange }
     {
         queues.sip.take()

@@ -16,7 +16,7 @@ settle-requires g c =
     let m = seen_record c.args.message in
     let f = c.args.found in
     record {
-      possible = subst (Possible st.table) (sym c.on_heard-decision.ensures.by_type_and_state)
+      possible = subst (Possible st.table) (sym c.at_its_call-decision.ensures.by_type_and_state)
           (possible_at st c.args.self.now.table.whole c.args.self.now.sound f.place f.call c.requires.found.0 c.requires.found.1 b c.requires.live st.full m (sym c.if-wants_another.ensures.setup_refused_for_its_channel));
       roomy = c.requires.roomy;
     }
@@ -30,7 +30,7 @@ returns-else-wants_another g c =
     let rule : Choice → Outcome = λ ch. at f.place (on_type st.full ch.pick m f.call m.kind) in
     record {
       refusal_leaves_all = c.settle.ensures.refusal_leaves_all;
-      by_type_and_state = plainly st rule b (outcome_of c.on_heard-decision.result)
-          (λ ch. ap (at f.place) (unpicked st.full ch.pick m f.call (sym c.if-wants_another.ensures.setup_refused_for_its_channel)) ∙ sym c.on_heard-decision.ensures.by_type_and_state)
+      by_type_and_state = plainly st rule b (outcome_of c.at_its_call-decision.result)
+          (λ ch. ap (at f.place) (unpicked st.full ch.pick m f.call (sym c.if-wants_another.ensures.setup_refused_for_its_channel)) ∙ sym c.at_its_call-decision.ensures.by_type_and_state)
           c.settle.ensures.answer_of_the_outcome c.settle.ensures.outcome_applied;
     }

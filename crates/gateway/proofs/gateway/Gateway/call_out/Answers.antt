@@ -4,7 +4,7 @@ use Rattle.calls.specs.declared.answers.Answer.{Answer}
 use Rattle.calls.specs.declared.answers.Report.{Report}
 use Rattle.calls.specs.declared.outgoing.SipMessage.{SipMessage}
 use Rattle.calls.specs.Effects.{invited}
-use Rattle.calls.specs.Rules.{Choice, Fair, Move, responds, calls_out}
+use Rattle.calls.specs.Rules.{Choice, Fair, Change, replies, calls_out}
 use Rattle.calls.proofs.Choices.{fair_pick}
 use Rattle.calls.proofs.Dids.{bounded, did, moved}
 use Rattle.effects.specs.Moves.{effect_of}
@@ -21,8 +21,8 @@ returns-in_default g c =
     let ch : Choice = record { pick = p.0; place = None } in
     let fair : Fair st ch = record { pick = p.1; place = c.in_default.ensures.a_free_place_or_none_is_free } in
     record {
-      a_call_or_503 = did st (λ ch. calls_out t c.args.invite.dialogue c.args.invite.digits.octets.now ch.place ch.pick) ch fair (responds t 503) refl (ap (λ (x : Report). Answer.Step (Ok x)) c.respond.ensures.report)
-          (replied st [] (SipMessage.Response t 503 ∷ []) st.pool (waiting c.args.queues.now.exchange) (waiting c.respond.new.sip) (room c.args.queues.now.exchange) (room c.respond.new.sip) (λ k. refl) (sym (append-nil (waiting c.args.queues.now.exchange))) c.respond.ensures.list refl c.respond.ensures.size);
+      a_call_or_503 = did st (λ ch. calls_out t c.args.invite.dialogue c.args.invite.digits.octets.now ch.place ch.pick) ch fair (replies t _) refl (ap (λ (x : Report). Answer.Step (Ok x)) c.respond.ensures.report)
+          (replied st [] (SipMessage.Response t _ ∷ []) st.pool (waiting c.args.queues.now.exchange) (waiting c.respond.new.sip) (room c.args.queues.now.exchange) (room c.respond.new.sip) (λ k. refl) (sym (append-nil (waiting c.args.queues.now.exchange))) c.respond.ensures.list refl c.respond.ensures.size);
     }
 
 pub returns-in-None : goal.returns-in-None
@@ -33,8 +33,8 @@ returns-in-None g c =
     let ch : Choice = record { pick = None; place = Some c.in-Some.place } in
     let fair : Fair st ch = record { pick = c.in-None.ensures.granted_exactly_if_one_is_idle; place = c.in-Some.ensures.a_free_place_or_none_is_free } in
     record {
-      a_call_or_503 = did st (λ ch. calls_out t c.args.invite.dialogue c.args.invite.digits.octets.now ch.place ch.pick) ch fair (responds t 503) refl (ap (λ (x : Report). Answer.Step (Ok x)) c.respond-in-None.ensures.report)
-          (replied st [] (SipMessage.Response t 503 ∷ []) (g.P.Pool.state c.seize_any.new.self.pool) (waiting c.args.queues.now.exchange) (waiting c.respond-in-None.new.sip) (room c.args.queues.now.exchange) (room c.respond-in-None.new.sip) c.in-None.ensures.grant_seizes_it_alone (sym (append-nil (waiting c.args.queues.now.exchange))) c.respond-in-None.ensures.list refl c.respond-in-None.ensures.size);
+      a_call_or_503 = did st (λ ch. calls_out t c.args.invite.dialogue c.args.invite.digits.octets.now ch.place ch.pick) ch fair (replies t _) refl (ap (λ (x : Report). Answer.Step (Ok x)) c.respond-in-None.ensures.report)
+          (replied st [] (SipMessage.Response t _ ∷ []) (g.P.Pool.state c.seize_any.new.self.pool) (waiting c.args.queues.now.exchange) (waiting c.respond-in-None.new.sip) (room c.args.queues.now.exchange) (room c.respond-in-None.new.sip) c.in-None.ensures.grant_seizes_it_alone (sym (append-nil (waiting c.args.queues.now.exchange))) c.respond-in-None.ensures.list refl c.respond-in-None.ensures.size);
     }
 
 pub returns-in-Some-seize_any : goal.returns-in-Some-seize_any
@@ -51,4 +51,4 @@ returns-in-Some-seize_any g c =
     let fair : Fair st ch = record { pick = c.in-Some-seize_any.ensures.granted_exactly_if_one_is_idle; place = c.in-Some.ensures.a_free_place_or_none_is_free } in
     let same = c.invited-effect.ensures.setup_on_the_channel ∙ ap (λ (y : ℕ). invited t d xs y) c.channel.ensures.answers_its_channel in
     let m = moved st i (effect_of c.invited-effect.result) e (Some x) (g.P.Pool.state c.seize_any.new.self.pool) c.in-Some-seize_any.ensures.grant_seizes_it_alone same refl c.apply.ensures.report_of_the_effect c.apply.ensures.effect_settled in
-    record { a_call_or_503 = did st (λ ch. calls_out t d xs ch.place ch.pick) ch fair (Move i e) refl m.0 m.1 }
+    record { a_call_or_503 = did st (λ ch. calls_out t d xs ch.place ch.pick) ch fair (Change i e) refl m.0 m.1 }

@@ -1,14 +1,14 @@
-use Rattle.std.proofs.Common.{[], ◌∷◌, Ok, Err, sym, refl, ap, ◌∙◌, append-nil}
+use Rattle.std.proofs.Common.{ℕ, Option, [], ◌∷◌, Ok, Err, sym, refl, ap, ◌∙◌, append-nil}
+use Rattle.refusals.specs.declared.Ground.{Ground}
 use Rattle.queues.specs.Waiting.{waiting, room}
 use Rattle.calls.specs.declared.answers.Answer.{Answer}
 use Rattle.calls.specs.declared.answers.Refused.{Refused}
 use Rattle.calls.specs.declared.answers.Report.{Report}
 use Rattle.calls.specs.declared.outgoing.SipMessage.{SipMessage}
 use Rattle.calls.specs.Sides.{holds_dialogue}
-use Rattle.calls.specs.Rules.{Choice, Outcome, refuse, responds, on_invite, seek, by_transaction}
+use Rattle.calls.specs.Rules.{Choice, Outcome, refuse, replies, unless_refused, unless_answered, calls_out, dialling_status, on_invite, seek, by_transaction}
 use Rattle.calls.proofs.Dids.{bounded, plainly, in_room}
 use Rattle.gateway.specs.Stands.{state_of}
-use Rattle.gateway.proofs.Invites.{invite_refused, invite_new, dial_refused}
 use Rattle.gateway.proofs.Ways.{passed_on, replied, full_refused}
 use Rattle.gateway.proofs.gateway.Gateway.invite.Goals as goal
 
@@ -32,7 +32,7 @@ returns-in_err-screen-clause-steps_by_the_rules g c =
     let rule : Choice → Outcome = λ ch. on_invite ch t d xs (seek (by_transaction t) st.table) (seek (holds_dialogue d) st.table) in
     let why = c.in_err-screen.field-0.0 in
     in_room st rule (sym c.in_ok-need_room.ensures.two_places_in_either)
-    (plainly st rule b (refuse why) (λ ch. invite_refused ch t d xs (seek (by_transaction t) st.table) (seek (holds_dialogue d) st.table) why c.in_err-screen.ensures.transaction_then_dialogue)
+    (plainly st rule b (refuse why) (λ ch. sym (ap (λ (o : Option Ground). unless_refused o (unless_answered t (dialling_status xs) (calls_out t d xs ch.place ch.pick))) c.in_err-screen.ensures.transaction_then_dialogue))
     (passed_on c.from_residual-in_err-screen.result _ c.from_residual-in_err-screen.ensures.1) refl)
 
 pub returns-in-Err-clause-steps_by_the_rules : goal.returns-in-Err-clause-steps_by_the_rules
@@ -45,5 +45,5 @@ returns-in-Err-clause-steps_by_the_rules g c =
     let rule : Choice → Outcome = λ ch. on_invite ch t d xs (seek (by_transaction t) st.table) (seek (holds_dialogue d) st.table) in
     let s = c.in-Err.status in
     in_room st rule (sym c.in_ok-need_room.ensures.two_places_in_either)
-    (plainly st rule b (responds t s) (λ ch. invite_new ch t d xs (seek (by_transaction t) st.table) (seek (holds_dialogue d) st.table) c.in_ok-screen.ensures.transaction_then_dialogue ∙ dial_refused ch t d xs s c.in-Err.ensures.none_or_not_a_number) (ap (λ (x : Report). Answer.Step (Ok x)) c.respond.ensures.report)
+    (plainly st rule b (replies t s) (λ ch. sym (ap (λ (o : Option Ground). unless_refused o (unless_answered t (dialling_status xs) (calls_out t d xs ch.place ch.pick))) c.in_ok-screen.ensures.transaction_then_dialogue) ∙ sym (ap (λ (o : Option ℕ). unless_answered t o (calls_out t d xs ch.place ch.pick)) c.in-Err.ensures.none_or_not_a_number)) (ap (λ (x : Report). Answer.Step (Ok x)) c.respond.ensures.report)
     (replied st [] (SipMessage.Response t s ∷ []) st.pool (waiting c.args.queues.now.exchange) (waiting c.respond.new.sip) (room c.args.queues.now.exchange) (room c.respond.new.sip) (λ k. refl) (sym (append-nil (waiting c.args.queues.now.exchange))) c.respond.ensures.list refl c.respond.ensures.size))

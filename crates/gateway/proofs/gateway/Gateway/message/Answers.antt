@@ -1,7 +1,7 @@
 use Rattle.std.proofs.Common.{sym, refl, ap}
 use Rattle.messages.specs.Reading.{decoded}
 use Rattle.calls.specs.Refusing.{placed}
-use Rattle.calls.specs.Rules.{Refuse, on_heard}
+use Rattle.calls.specs.Rules.{Refuse, on_octets}
 use Rattle.calls.proofs.Dids.{bounded, plainly}
 use Rattle.gateway.specs.Stands.{state_of}
 use Rattle.gateway.proofs.Ways.{passed_on}
@@ -11,6 +11,6 @@ pub returns-in_err-message-clause-steps_by_the_rules : goal.returns-in_err-messa
 returns-in_err-message-clause-steps_by_the_rules g c =
     let st = state_of g.P.Pool.state c.args.self.now c.args.queues.now in
     let b = bounded g.P.Pool.state g.P.Pool.top g.met.P.Pool.known_within_top g.met.P.Pool.top_within_127 c.args.self.now.trunk.pool in
-    plainly st (λ ch. on_heard st ch (decoded c.args.octets.now)) b (Refuse (placed c.in_err-message.field-0.0))
-    (λ ch. sym (ap (on_heard st ch) c.in_err-message.ensures.exactly_by_the_layout))
+    plainly st (λ ch. on_octets st ch (decoded c.args.octets.now)) b (Refuse (placed c.in_err-message.field-0.0))
+    (λ ch. sym (ap (on_octets st ch) c.in_err-message.ensures.exactly_by_the_layout))
     (passed_on c.from_residual.result _ c.from_residual.ensures.1) refl

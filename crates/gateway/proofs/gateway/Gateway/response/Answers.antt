@@ -3,9 +3,8 @@ use Rattle.std.proofs.lemmas.Bool.{cond-true, cond-false}
 use Rattle.refusals.specs.declared.Ground.{Ground}
 use Rattle.calls.specs.declared.answers.Answer.{Answer}
 use Rattle.calls.specs.declared.answers.Refused.{Refused}
-use Rattle.calls.specs.Rules.{Response, roomed, refuse, is_status}
+use Rattle.calls.specs.Rules.{Response, on_response, roomed, refuse, is_status}
 use Rattle.calls.proofs.Dids.{bounded, plainly}
-use Rattle.decisions.specs.Outcomes.{responded}
 use Rattle.gateway.specs.Stands.{state_of}
 use Rattle.gateway.proofs.Ways.{possible_step}
 use Rattle.gateway.proofs.Unseizing.{response_still}
@@ -16,7 +15,7 @@ carry_out-requires g c =
     let st = state_of g.P.Pool.state c.args.self.now c.args.queues.now in
     let b = bounded g.P.Pool.state g.P.Pool.top g.met.P.Pool.known_within_top g.met.P.Pool.top_within_127 c.args.self.now.trunk.pool in
     record {
-      possible_with_room = possible_step st c.args.self.now.table.whole c.args.self.now.sound b (Response _ c.args.response.status _ _) (responded st.table _ c.args.response.status _ _) _ c.on_response-decision.ensures.by_the_status
+      possible_with_room = possible_step st c.args.self.now.table.whole c.args.self.now.sound b (Response _ c.args.response.status _ _) (on_response st.table _ c.args.response.status _ _) _ c.on_response-decision.ensures.by_the_status
           (λ ch. cond-true (is_status c.args.response.status) (roomed st _) (refuse Ground.StatusOutOfRange) (sym c.if-not-is_status.ensures.from_100_to_699))
           (response_still st.table _ c.args.response.status _ _);
     }
@@ -25,5 +24,5 @@ pub returns-then-not-is_status-clause-steps_by_the_rules : goal.returns-then-not
 returns-then-not-is_status-clause-steps_by_the_rules g c =
     let st = state_of g.P.Pool.state c.args.self.now c.args.queues.now in
     let b = bounded g.P.Pool.state g.P.Pool.top g.met.P.Pool.known_within_top g.met.P.Pool.top_within_127 c.args.self.now.trunk.pool in
-    let o = responded st.table c.args.response.number c.args.response.status c.args.response.dialogue c.args.response.media in
+    let o = on_response st.table c.args.response.number c.args.response.status c.args.response.dialogue c.args.response.media in
     plainly st _ b (refuse Ground.StatusOutOfRange) (λ ch. cond-false (is_status c.args.response.status) (roomed st o) (refuse Ground.StatusOutOfRange) (sym c.if-not-is_status.ensures.from_100_to_699)) (ap (λ (x : Refused). Answer.Step (Err x)) c.from.ensures) refl

@@ -1,6 +1,6 @@
 use Rattle.std.proofs.Common.{ℕ, Option, sym, refl, ap, ◌∙◌, subst}
 use Rattle.calls.specs.Effects.{Effect, tries_again}
-use Rattle.calls.specs.Rules.{Choice, Fair, Move}
+use Rattle.calls.specs.Rules.{Choice, Fair, Change}
 use Rattle.calls.proofs.Choices.{fair_place}
 use Rattle.calls.proofs.Dids.{did, moved}
 use Rattle.call_table.specs.Tokens.{token_channel}
@@ -28,4 +28,4 @@ returns g c =
     let fair : Fair st ch = record { pick = c.seize_any-token.ensures.granted_exactly_if_one_is_idle; place = place.1 } in
     let same = c.tries_again-effect.ensures.another_channel_or_none ∙ ap (λ (x : Option ℕ). tries_again x f.call) c.token_channel.ensures.answers_its_channel in
     let m = moved st f.place (effect_of c.tries_again-effect.result) (tries_again pick f.call) pick (g.P.Pool.state c.seize_any-token.new.self.pool) c.seize_any-token.ensures.grant_seizes_it_alone same (again_seizes pick f.call) c.apply.ensures.report_of_the_effect c.apply.ensures.effect_settled in
-    record { another_channel_or_none = did st (λ ch. Move f.place (tries_again ch.pick f.call)) ch fair (Move f.place (tries_again pick f.call)) refl m.0 m.1 }
+    record { another_channel_or_none = did st (λ ch. Change f.place (tries_again ch.pick f.call)) ch fair (Change f.place (tries_again pick f.call)) refl m.0 m.1 }
