@@ -11,7 +11,7 @@ Everywhere P [] = Unit {0}
 Everywhere P (o ∷ os) = P o × Everywhere P os
 
 -- an INVITE of the gateway's own is out only while the call proceeds; nothing is out while digits are collected
-abbrev pub matches : ExchangeSide → SipSide → Bool
+abbrev pub sides_agree : ExchangeSide → SipSide → Bool
 sides_agree l g = (not (sip_stage g == 1) || stage l == 2) && (not (stage l == 1) || sip_stage g == 0)
 
 abbrev pub SoundAt : Option Call → Type 0
