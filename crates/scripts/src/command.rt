@@ -1,8 +1,8 @@
 use crate::shown::timer_name;
 use calls::{Response, Timer};
+use events::Event;
 use hexadecimal::octets_in;
 use messages::CallReference;
-use runs::Event;
 use std::alloc::{AllocError, Global};
 use std::num::ParseIntError;
 use thiserror::Error;

@@ -1,8 +1,8 @@
 //! What is counted of a play: what its laws speak of, and its refusals.
 use calls::{Answer, Call, Digits, ExchangeSide, Refused, Report, SipMessage, SipSide};
+use events::Event;
 use messages::{Message, MessageType};
 use reader::read;
-use runs::Event;
 use std::alloc::{AllocError, Global};
 use std::collections::BTreeMap;
 use std::fmt;

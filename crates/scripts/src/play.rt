@@ -1,17 +1,18 @@
 //! The play of one opened gateway.
 ghost use Rattle.std.specs.Prelude.{map, IfOk};
 ghost use Rattle.calls.specs.Laws.{RunsOn};
+ghost use Rattle.events.specs.Events.{event_of};
 ghost use Rattle.gateway.specs.Stands.{state_of};
-ghost use Rattle.runs.specs.Events.{event_of};
 
 use crate::command::Command;
 use crate::ledger::Ledger;
 use crate::script::Line;
 use crate::shown::{AnswerText, CallText};
 use calls::{Answer, Call};
+use events::Event;
 use gateway::{Gateway, Outgoing};
 use pools::Pool;
-use runs::{Event, run};
+use runs::run;
 use std::alloc::{AllocError, Global};
 use std::{io, slice};
 
