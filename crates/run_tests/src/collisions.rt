@@ -9,7 +9,7 @@ use turn_pool::TurnPool;
 /// RELEASE COMPLETE with cause 44 to the SETUP on channel 7.
 const UNAVAILABLE: [u8; 9] = [0x08, 0x02, 0x80, 0x07, 0x5a, 0x08, 0x02, 0x80, 0xac];
 
-/// An INVITE to 417, the exchange's refusal of the channel, and the takings.
+/// An INVITE to 417, the exchange's refusal of the channel, and an event for each message that is then taken.
 fn refused_channel(heap: Global) -> Result<Vec<Event>, AllocError> {
     let digits = vec![in heap; b'4', b'1', b'7']?;
     let octets = UNAVAILABLE.as_slice().to_vec(heap)?;

@@ -4,8 +4,8 @@ use Rattle.std.proofs.lemmas.List.{take_more, map-append}
 use Rattle.calls.specs.declared.answers.Answer.{Answer}
 use Rattle.calls.specs.Rules as rules
 use Rattle.calls.specs.Rules.{State, Stepped, Stepping, next_step}
-use Rattle.runs.specs.declared.event.Event.{Event}
-use Rattle.runs.specs.Events.{event_of}
+use Rattle.events.specs.declared.event.Event.{Event}
+use Rattle.events.specs.Events.{event_of}
 
 events_more : (evs : List Event) (i : ℕ) (e : Event) → i < length evs → e ≡ get_or evs i e → map event_of (take (i + 1) evs) ≡ map event_of (take i evs) ++ event_of e ∷ []
 events_more evs i e h is =

@@ -1,11 +1,11 @@
 ghost use Rattle.std.specs.Prelude.{◌≡◌, ◌+◌, ◌≤◌, [], map, length, vec_len, vec_capacity, MatchResult};
 ghost use Rattle.calls.specs.Rules.{Stepped, Stepping};
 ghost use Rattle.calls.specs.Laws.{RunsOn};
+ghost use Rattle.events.specs.Events.{event_of};
 ghost use Rattle.gateway.specs.Stands.{state_of};
-ghost use Rattle.runs.specs.Events.{event_of};
 
-use crate::event::Event;
 use calls::{Answer, Invite};
+use events::Event;
 use gateway::{Gateway, Outgoing};
 use pools::Pool;
 use std::alloc::{AllocError, Global};

@@ -2,9 +2,8 @@
 #![tactic(auto)]
 
 mod drive;
-mod event;
 mod play;
 
 pub use drive::run;
-pub use event::Event;
+pub use events::Event;
 pub use play::{NotPlayed, open_and_run};

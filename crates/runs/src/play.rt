@@ -1,12 +1,12 @@
 ghost use Rattle.std.specs.Prelude.{◌≡◌, map, length, MatchResult};
 ghost use Rattle.refusals.specs.declared.Ground.TheVariants.{SettingOutOfRange};
+ghost use Rattle.events.specs.Events.{event_of};
 ghost use Rattle.gateway.specs.Stands.{InRange};
-ghost use Rattle.runs.specs.Events.{event_of};
 ghost use Rattle.runs.specs.Plays.{Played};
 
 use crate::drive::run;
-use crate::event::Event;
 use calls::{Answer, Digits, SipMessage};
+use events::Event;
 use gateway::{Gateway, Outgoing};
 use messages::Message;
 use pools::Pool;

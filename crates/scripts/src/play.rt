@@ -1,17 +1,15 @@
 //! The play of one opened gateway.
 ghost use Rattle.std.specs.Prelude.{map, IfOk};
 ghost use Rattle.calls.specs.Laws.{RunsOn};
+ghost use Rattle.events.specs.Events.{event_of};
 ghost use Rattle.gateway.specs.Stands.{state_of};
-ghost use Rattle.runs.specs.Events.{event_of};
 
-use crate::command::Command;
-use crate::ledger::Ledger;
-use crate::script::Line;
-use crate::shown::{AnswerText, CallText};
 use calls::{Answer, Call};
+use events::Event;
 use gateway::{Gateway, Outgoing};
 use pools::Pool;
-use runs::{Event, run};
+use runs::run;
+use script_lines::{Command, Ledger, Line, print_answers, print_calls, print_drained};
 use std::alloc::{AllocError, Global};
 use std::{io, slice};
 
@@ -52,8 +50,8 @@ impl<'a, P: Pool + Drop> Play<'a, P> {
         Ok(answers)
     }
 
-    /// As many takings as messages wait, those of the exchange first.
-    fn takings(&self, heap: Global) -> Result<Vec<Event>, AllocError> {
+    /// Events that take all the messages that wait, those for the exchange first.
+    fn events_that_take_all(&self, heap: Global) -> Result<Vec<Event>, AllocError> {
         let exchange = self
             .exchange_places
             .saturating_sub(self.queues.exchange.free_places());
@@ -67,8 +65,8 @@ impl<'a, P: Pool + Drop> Play<'a, P> {
 
     /// Takes all that waits.
     fn drain(&mut self, heap: Global) -> Result<Vec<Answer>, AllocError> {
-        let takings = self.takings(heap)?;
-        self.run(heap, takings.as_slice())
+        let events = self.events_that_take_all(heap)?;
+        self.run(heap, events.as_slice())
     }
 
     /// The calls in the order of their places.
@@ -78,33 +76,20 @@ impl<'a, P: Pool + Drop> Play<'a, P> {
             .collect(heap)
     }
 
-    fn print_drained(&mut self, rt: &(impl Print + AllocGlobal)) -> io::Result<()> {
-        let answers = self.drain(rt.alloc())?;
-        if answers.is_empty() {
-            return println!(rt; "= none");
-        }
-        print_answers(rt, answers.as_slice())
-    }
-
-    fn print_calls(&self, rt: &(impl Print + AllocGlobal)) -> io::Result<()> {
-        let calls = self.calls(rt.alloc())?;
-        if calls.is_empty() {
-            return println!(rt; "  no calls");
-        }
-        for call in calls.iter() {
-            println!(rt; "  {}", CallText(*call))?;
-        }
-        Ok(())
-    }
-
     fn obey(&mut self, rt: &(impl Print + AllocGlobal), command: &Command) -> io::Result<()> {
         match command {
             Command::Event(event) => {
                 let answers = self.run(rt.alloc(), slice::from_ref(event))?;
                 print_answers(rt, answers.as_slice())
             }
-            Command::Drain => self.print_drained(rt),
-            Command::Calls => self.print_calls(rt),
+            Command::Drain => {
+                let answers = self.drain(rt.alloc())?;
+                print_drained(rt, answers.as_slice())
+            }
+            Command::Calls => {
+                let calls = self.calls(rt.alloc())?;
+                print_calls(rt, calls.as_slice())
+            }
             // The lines up to the next opening are one play: none comes here.
             Command::Open(_) => Ok(()),
         }
@@ -133,11 +118,4 @@ impl<'a, P: Pool + Drop> Play<'a, P> {
         }
         println!(rt; "{}", self.ledger)
     }
-}
-
-fn print_answers(rt: &impl Print, answers: &[Answer]) -> io::Result<()> {
-    for answer in answers {
-        println!(rt; "= {}", AnswerText(*answer))?;
-    }
-    Ok(())
 }

@@ -1,106 +1,11 @@
 //! A whole script: its lines, in sections that each begin with an opening.
-use crate::command::{BadLine, Command, Opening, PoolKind, parse};
 use crate::play::Play;
-use calls::Refused;
 use gateway::{Gateway, Outgoing};
-use message_text::is_remark;
 use link_pool::LinkPool;
 use pools::Pool;
-use refusals::Ground;
-use std::alloc::{AllocError, Global};
+use script_lines::{Line, Opening, PoolKind, lines_of, print_refused, print_unopened};
 use std::io;
 use turn_pool::TurnPool;
-
-/// What a line is.
-#[derive(Drop)]
-enum Meaning {
-    /// Empty, or a comment.
-    Remark,
-    Command(Command),
-    Bad(BadLine),
-}
-
-/// A line of a script with its number, from 1.
-#[derive(Drop)]
-pub(crate) struct Line<'a> {
-    number: usize,
-    text: &'a str,
-    meaning: Meaning,
-}
-
-fn meaning_of(heap: Global, text: &str) -> Result<Meaning, AllocError> {
-    if is_remark(text.as_bytes()) {
-        return Ok(Meaning::Remark);
-    }
-    match parse(heap, text) {
-        Ok(command) => Ok(Meaning::Command(command)),
-        Err(BadLine::NoMemory) => Err(AllocError),
-        Err(why) => Ok(Meaning::Bad(why)),
-    }
-}
-
-impl<'a> Line<'a> {
-    fn new(heap: Global, number: usize, text: &'a str) -> Result<Line<'a>, AllocError> {
-        Ok(Line {
-            number,
-            text,
-            meaning: meaning_of(heap, text)?,
-        })
-    }
-
-    /// The opening, if the line is one.
-    fn opening(&self) -> Option<&Opening> {
-        match &self.meaning {
-            Meaning::Command(Command::Open(opening)) => Some(opening),
-            _ => None,
-        }
-    }
-
-    /// The line: a remark as it is, any other behind its number and without the blanks at its end.
-    pub(crate) fn echo(&self, rt: &impl Print) -> io::Result<()> {
-        match self.meaning {
-            Meaning::Remark => println!(rt; "{}", self.text),
-            _ => println!(rt; "{}: {}", self.number, self.text.trim_end()),
-        }
-    }
-
-    /// The command, if the line has one; a bad line is answered here.
-    pub(crate) fn command(&self, rt: &impl Print) -> io::Result<Option<&Command>> {
-        match &self.meaning {
-            Meaning::Remark => Ok(None),
-            Meaning::Command(command) => Ok(Some(command)),
-            Meaning::Bad(why) => {
-                println!(rt; "= bad line: {why}")?;
-                Ok(None)
-            }
-        }
-    }
-}
-
-fn lines_of(heap: Global, text: &str) -> Result<Vec<Line<'_>>, AllocError> {
-    let mut lines = Vec::new(heap);
-    for (i, line) in text.lines().enumerate() {
-        lines.push(Line::new(heap, i.saturating_add(1), line)?)?;
-    }
-    Ok(lines)
-}
-
-/// Lines while no gateway is open.
-fn play_unopened(rt: &impl Print, lines: &[Line<'_>]) -> io::Result<()> {
-    for line in lines {
-        line.echo(rt)?;
-        if line.command(rt)?.is_some() {
-            println!(rt; "= no gateway is open")?;
-        }
-    }
-    Ok(())
-}
-
-/// An opening that was refused, and the lines below it.
-fn play_refused(rt: &impl Print, ground: Ground, lines: &[Line<'_>]) -> io::Result<()> {
-    println!(rt; "= {}", Refused::from(ground))?;
-    play_unopened(rt, lines)
-}
 
 /// Lines on an open gateway, and its ledger.
 fn play_opened<P: Pool + Drop>(
@@ -131,7 +36,7 @@ fn play_over<P: Pool + Drop>(
             Ok(true)
         }
         Err(ground) => {
-            play_refused(rt, ground, lines)?;
+            print_refused(rt, ground, lines)?;
             Ok(false)
         }
     }
@@ -148,7 +53,7 @@ fn play_opening(
         PoolKind::Turn(list) => match TurnPool::new(list.as_slice()) {
             Ok(pool) => play_over(rt, pool, opening, lines),
             Err(ground) => {
-                play_refused(rt, ground, lines)?;
+                print_refused(rt, ground, lines)?;
                 Ok(false)
             }
         },
@@ -163,7 +68,7 @@ fn play_section(rt: &(impl Print + AllocGlobal), lines: &[Line<'_>]) -> io::Resu
             return play_opening(rt, opening, below);
         }
     }
-    play_unopened(rt, lines)?;
+    print_unopened(rt, lines)?;
     Ok(false)
 }
 

@@ -3,9 +3,9 @@ use Rattle.std.proofs.lemmas.List.{take_all}
 use Rattle.calls.specs.declared.answers.Answer.{Answer}
 use Rattle.calls.specs.Rules.{Stepping, no_step}
 use Rattle.calls.proofs.Histories.{runs_compose}
+use Rattle.events.specs.declared.event.Event.{Event}
+use Rattle.events.specs.Events.{event_of}
 use Rattle.gateway.specs.Stands.{state_of}
-use Rattle.runs.specs.declared.event.Event.{Event}
-use Rattle.runs.specs.Events.{event_of}
 use Rattle.runs.proofs.Driven.{driven_more}
 use Rattle.runs.proofs.drive.run_each.Goals as goal
 

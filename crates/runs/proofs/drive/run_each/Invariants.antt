@@ -1,7 +1,7 @@
 use Rattle.std.proofs.Common.{◌+◌, ◌≤◌, map, length, take, vec_items, vec_len, vec_capacity}
 use Rattle.calls.specs.Rules.{Stepping}
+use Rattle.events.specs.Events.{event_of}
 use Rattle.gateway.specs.Stands.{state_of}
-use Rattle.runs.specs.Events.{event_of}
 use Rattle.runs.proofs.drive.run_each.Given as goal
 
 abbrev pub invariant-loop-event : goal.invariant-loop-event

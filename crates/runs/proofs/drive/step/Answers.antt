@@ -1,6 +1,6 @@
 use Rattle.std.proofs.Common.{sym, ap, ◌∙◌}
 use Rattle.calls.specs.Rules as rules
-use Rattle.runs.specs.Events.{event_of}
+use Rattle.events.specs.Events.{event_of}
 use Rattle.runs.proofs.Driven.{as_event}
 use Rattle.runs.proofs.drive.step.Goals as goal
 

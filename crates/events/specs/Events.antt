@@ -1,8 +1,8 @@
 -- What an event says to the rules: the octets that it owns are read.
 use Rattle.std.specs.Prelude.{vec_items}
 use Rattle.calls.specs.Rules as rules
-use Rattle.runs.specs.declared.event.Event.{Event}
-use Rattle.runs.specs.declared.event.Event.TheVariants.{Exchange, Invite, Cancel, Bye, Response, Expiry, CancelExpiry, TakeExchange, TakeSip}
+use Rattle.events.specs.declared.event.Event.{Event}
+use Rattle.events.specs.declared.event.Event.TheVariants.{Exchange, Invite, Cancel, Bye, Response, Expiry, CancelExpiry, TakeExchange, TakeSip}
 
 abbrev pub event_of : Event → rules.Event
 event_of (Exchange octets) = rules.Exchange (vec_items octets)

@@ -1,15 +1,17 @@
+//! What a line of a script asks for.
 use crate::shown::timer_name;
 use calls::{Response, Timer};
+use events::Event;
 use hexadecimal::octets_in;
 use messages::CallReference;
-use runs::Event;
 use std::alloc::{AllocError, Global};
 use std::num::ParseIntError;
 use thiserror::Error;
 
 /// The channels that a gateway is opened over.
 #[derive(Drop)]
-pub(crate) enum PoolKind {
+pub enum PoolKind {
+    /// The 30 channels of a link.
     Link,
     /// Channels that take turns, in list order.
     Turn(Vec<u8>),
@@ -17,18 +19,24 @@ pub(crate) enum PoolKind {
 
 /// What a gateway is opened with.
 #[derive(Drop)]
-pub(crate) struct Opening {
-    pub(crate) pool: PoolKind,
-    pub(crate) length: usize,
-    pub(crate) first: u64,
-    pub(crate) exchange_places: usize,
-    pub(crate) sip_places: usize,
+pub struct Opening {
+    pub pool: PoolKind,
+    /// How many digits make a number full.
+    pub length: usize,
+    /// The number of the first INVITE.
+    pub first: u64,
+    /// How many messages find a place in the queue for the exchange.
+    pub exchange_places: usize,
+    /// How many messages find a place in the queue for SIP.
+    pub sip_places: usize,
 }
 
 /// What a line of a script asks for.
 #[derive(Drop)]
-pub(crate) enum Command {
+pub enum Command {
+    /// Opens a gateway.
     Open(Opening),
+    /// Lets an event come.
     Event(Event),
     /// Takes all that waits for the exchange, then all that waits for SIP.
     Drain,

@@ -8,18 +8,21 @@ pub enum Event {
     Exchange {
         octets: Vec<u8>,
     },
-    /// Its fields one by one: the digits are owned here, and lent to the step.
+    /// An INVITE, its fields one by one: the digits are owned here, and lent to the step.
     Invite {
         transaction: u64,
         dialogue: u64,
         digits: Vec<u8>,
     },
+    /// CANCEL of an INVITE.
     Cancel {
         transaction: u64,
     },
+    /// BYE on a dialogue.
     Bye {
         dialogue: u64,
     },
+    /// A response to an INVITE of ours.
     Response(Response),
     /// A timer of the exchange side, by the reference as the exchange sends it.
     Expiry {
@@ -30,6 +33,8 @@ pub enum Event {
     CancelExpiry {
         number: u64,
     },
+    /// The oldest message for the exchange is taken.
     TakeExchange,
+    /// The oldest message for SIP is taken.
     TakeSip,
 }

@@ -1,8 +1,8 @@
 //! What is counted of a play: what its laws speak of, and its refusals.
 use calls::{Answer, Call, Digits, ExchangeSide, Refused, Report, SipMessage, SipSide};
+use events::Event;
 use messages::{Message, MessageType};
 use reader::read;
-use runs::Event;
 use std::alloc::{AllocError, Global};
 use std::collections::BTreeMap;
 use std::fmt;
@@ -41,7 +41,7 @@ struct TransactionEntry {
 
 /// The counts of one gateway's play.
 #[derive(Drop)]
-pub(crate) struct Ledger {
+pub struct Ledger {
     channels: BTreeMap<u8, ChannelEntry>,
     transactions: BTreeMap<u64, TransactionEntry>,
     oks: Count,
@@ -58,7 +58,8 @@ fn is_setup(octets: &[u8]) -> bool {
 }
 
 impl Ledger {
-    pub(crate) fn new(heap: Global) -> Ledger {
+    /// A ledger in which nothing is noted.
+    pub fn new(heap: Global) -> Ledger {
         Ledger {
             channels: BTreeMap::new(heap),
             transactions: BTreeMap::new(heap),
@@ -73,11 +74,7 @@ impl Ledger {
     }
 
     /// Events in their order, each with what came of it.
-    pub(crate) fn note_all(
-        &mut self,
-        events: &[Event],
-        answers: &[Answer],
-    ) -> Result<(), AllocError> {
+    pub fn note_all(&mut self, events: &[Event], answers: &[Answer]) -> Result<(), AllocError> {
         for (event, answer) in events.iter().zip(answers) {
             self.note(event, answer)?;
         }
@@ -182,7 +179,7 @@ impl Ledger {
     }
 
     /// A call that stands at the end of the play: what it holds and owes.
-    pub(crate) fn note_call(&mut self, call: &Call) {
+    pub fn note_call(&mut self, call: &Call) {
         if !matches!(call.exchange, ExchangeSide::Over) {
             if let Some(entry) = self.channels.get_mut(&call.channel) {
                 entry.is_held = true;
