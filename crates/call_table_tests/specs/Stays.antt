@@ -4,14 +4,15 @@ use Rattle.pools.specs.States.{States, seized, after_release}
 use Rattle.calls.specs.declared.record.Call.{Call}
 use Rattle.calls.specs.declared.sides.ExchangeSide.{ExchangeSide}
 use Rattle.calls.specs.declared.sides.SipSide.{SipSide}
-use Rattle.calls.specs.Rules.{Found}
+use Rattle.calls.specs.declared.record.Found.{Found}
+use Rattle.calls.specs.declared.record.Origin.{Origin}
 use Rattle.call_table.specs.Records.{holding}
 use Rattle.call_table.specs.Wishes.{WishGets}
 
 -- a call from the exchange on channel c; its digits are awaited
 abbrev pub call_on : ℕ → Call
 call_on c =
-    record { reference = record { flag = false; number = 1 }; channel = c; number = None; digits = record { octets = replicate 20 0; count = 0 }; exchange = ExchangeSide.Collecting; sip = SipSide.None }
+    record { reference = record { flag = false; number = 1 }; channel = c; origin = Origin.Sip; digits = record { octets = replicate 20 0; count = 0 }; exchange = ExchangeSide.Collecting; sip = SipSide.None }
 
 -- by the wish where the place is free, else none
 abbrev pub Occupies : Bool → Bool → Bool → ℕ → States → Option ℕ → Type 0
@@ -33,8 +34,7 @@ channel_found (Some f) = holding (Some f.call)
 
 -- the call with its exchange side over
 abbrev pub ended : Call → Call
-ended call =
-    record { reference = call.reference; channel = call.channel; number = call.number; digits = call.digits; exchange = ExchangeSide.Over; sip = call.sip }
+ended call = record call { exchange = ExchangeSide.Over }
 
 abbrev pub after_ending : Option Found → List (Option Call) → List (Option Call)
 after_ending None places = places

@@ -9,8 +9,8 @@ ghost use Rattle.call_table.specs.Keys.{keyed};
 ghost use Rattle.call_table.specs.Records.{held, is_free};
 ghost use Rattle.call_table_tests.specs.Stays.{call_on, Occupies, after_occupying, after_vacating, channel_found, after_ending};
 
-use calls::{Call, Digits, ExchangeSide, SipSide};
 use call_table::{Key, Table, Token, Trunk};
+use calls::{Call, Digits, ExchangeSide, Origin, SipSide};
 use messages::{CallReference, Channel};
 use pools::Pool;
 
@@ -27,7 +27,7 @@ pub fn call_on(channel: u8) -> Call
             number: 1,
         },
         channel,
-        number: None,
+        origin: Origin::Sip,
         digits: Digits {
             octets: [0; 20],
             count: 0,

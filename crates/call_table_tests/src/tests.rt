@@ -1,6 +1,6 @@
 use crate::{call_on, end_exchange_side, occupy, vacate};
-use calls::{Call, ExchangeSide, SipSide, Told};
 use call_table::{Key, Table, Trunk};
+use calls::{Call, ExchangeSide, Origin, SipSide, Told};
 use link_pool::LinkPool;
 use messages::{CallReference, Cause};
 use pools::Pool;
@@ -137,7 +137,9 @@ fn from_exchange(number: u16, exchange: ExchangeSide, sip: SipSide) -> Call {
             flag: false,
             number,
         },
-        number: Some(number as u64),
+        origin: Origin::Exchange {
+            number: number as u64,
+        },
         exchange,
         sip,
         ..call_on(0)

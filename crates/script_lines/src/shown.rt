@@ -3,7 +3,7 @@ ghost use Rattle.std.specs.Prelude.{◌≡◌};
 ghost use Rattle.calls.specs.Effects.{meant};
 
 use crate::command::{Opening, PoolKind};
-use calls::{Answer, Call, Digits, ExchangeSide, Report, SipMessage, SipSide, Timer};
+use calls::{Answer, Call, Digits, ExchangeSide, Origin, Report, SipMessage, SipSide, Timer};
 use message_text::MessageText;
 use messages::{Elements, Message, Part};
 use std::fmt;
@@ -189,7 +189,7 @@ impl fmt::Display for CallText {
             exchange_name(call.exchange),
             sip_name(call.sip)
         )?;
-        if let Some(number) = call.number {
+        if let Origin::Exchange { number } = call.origin {
             write!(f, " n={number}")?;
         }
         match call.sip {
