@@ -12,4 +12,5 @@ mod setup;
 mod steps;
 
 pub use gateway::Gateway;
+pub use number::following;
 pub use outgoing::Outgoing;

@@ -3,7 +3,7 @@ ghost use Rattle.std.specs.Prelude.{◌≡◌};
 ghost use Rattle.calls.specs.Rules.{following};
 
 /// The number of the next call, after a step that used up one or did not. None is used twice: after the last there is none.
-pub(crate) fn following(numbered: bool, next: Option<u64>) -> Option<u64>
+pub fn following(numbered: bool, next: Option<u64>) -> Option<u64>
     ensures one_more_until_the_last { result ≡ following numbered next }
 {
     if numbered {

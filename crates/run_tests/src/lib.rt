@@ -3,3 +3,5 @@
 
 #[cfg(test)]
 mod collisions;
+#[cfg(test)]
+mod numbers;

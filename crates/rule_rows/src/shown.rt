@@ -1,8 +1,9 @@
 //! An effect as one line: where the call then stands, what is reported, and what goes out to the exchange and to SIP. It is the
 //! rows' own short form, which leaves out what a row does not try; the records' own `Display` would not.
-use calls::{Digits, ExchangeSide, SipMessage, SipSide};
-use messages::{Message, MessageType};
+use crate::words::{exchange_name, kind_name, sip_name};
+use calls::{Digits, SipMessage, SipSide};
 use effects::Effect;
+use messages::Message;
 use queues::few::Few;
 use refusals::Ground;
 use std::alloc::{AllocError, Global};
@@ -14,49 +15,6 @@ struct EffectText(Effect);
 /// What is reported, or a dash where there is nothing.
 #[derive(Clone, Copy)]
 struct OrDash<T>(Option<T>);
-
-fn exchange_name(side: ExchangeSide) -> &'static str {
-    match side {
-        ExchangeSide::Over => "over",
-        ExchangeSide::Collecting => "collecting",
-        ExchangeSide::Proceeding => "proceeding",
-        ExchangeSide::ConnectSent => "connect-sent",
-        ExchangeSide::Up => "up",
-        ExchangeSide::SetupSent => "setup-sent",
-        ExchangeSide::ProceedingOutwards => "proceeding-outwards",
-        ExchangeSide::Ringing => "ringing",
-        ExchangeSide::DisconnectSent { .. } => "disconnect-sent",
-        ExchangeSide::ReleaseSent { repeated: true, .. } => "release-sent-twice",
-        ExchangeSide::ReleaseSent { .. } => "release-sent",
-    }
-}
-
-fn sip_name(side: SipSide) -> &'static str {
-    match side {
-        SipSide::None => "none",
-        SipSide::InviteSent { .. } => "invite-sent",
-        SipSide::InviteUnanswered { .. } => "invite-unanswered",
-        SipSide::Up { .. } => "up",
-        SipSide::CancelSent => "cancel-sent",
-    }
-}
-
-// Stays a match: the type's own `Display` parts its words by spaces, as a line parts its messages.
-fn kind_name(kind: MessageType) -> &'static str {
-    match kind {
-        MessageType::Alerting => "ALERTING",
-        MessageType::CallProceeding => "CALL-PROCEEDING",
-        MessageType::Progress => "PROGRESS",
-        MessageType::Setup => "SETUP",
-        MessageType::Connect => "CONNECT",
-        MessageType::SetupAcknowledge => "SETUP-ACKNOWLEDGE",
-        MessageType::ConnectAcknowledge => "CONNECT-ACKNOWLEDGE",
-        MessageType::Disconnect => "DISCONNECT",
-        MessageType::Release => "RELEASE",
-        MessageType::ReleaseComplete => "RELEASE-COMPLETE",
-        MessageType::Information => "INFORMATION",
-    }
-}
 
 /// What the exchange has been told while the INVITE is out.
 fn show_told<W: fmt::Write>(side: SipSide, f: &mut fmt::Formatter<W>) -> fmt::Result {
