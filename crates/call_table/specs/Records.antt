@@ -1,5 +1,5 @@
 -- The 64 places of the table of calls: the channels that they hold, and how tokens go in and out.
-use Rattle.std.specs.Prelude.{◌≡◌, ℕ, Bool, true, false, cond, not, ◌&&◌, List, is_some, Some, None, Ok, Err, Option, Result, ◌==◌, nat_lt, slice_index_or, slice_set}
+use Rattle.std.specs.Prelude.{◌≡◌, ℕ, Bool, true, false, if◌then◌else◌, not, ◌&&◌, List, is_some, Some, None, Ok, Err, Option, Result, ◌==◌, nat_lt, slice_index_or, slice_set}
 use Rattle.calls.specs.declared.record.Call.{Call}
 use Rattle.calls.specs.Sides.{is_over, held_channel}
 use Rattle.call_table.specs.Tokens.{token_of}
@@ -21,7 +21,7 @@ is_vacant (Some call) = false
 
 -- one of the 64 places, with no call in it
 abbrev pub is_free : List (Option Call) → ℕ → Bool
-is_free places place = cond (nat_lt place 64) (is_vacant (slice_index_or places place None)) false
+is_free places place = if nat_lt place 64 then is_vacant (slice_index_or places place None) else false
 
 -- the call holds channel c
 abbrev pub is_holding : ℕ → Call → Bool
@@ -53,5 +53,5 @@ Enters before after (Some token) = holding after ≡ Some token.channel
 
 -- the token that comes out: of the channel that the place held, unless it goes on holding it
 abbrev pub left : Option Call → Option Call → Option Token → Option Token
-left before after None = cond (is_some (holding after)) None (token_of (holding before))
+left before after None = if is_some (holding after) then None else token_of (holding before)
 left before after (Some token) = token_of (holding before)

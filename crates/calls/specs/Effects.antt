@@ -268,7 +268,7 @@ awaits k ds = redialled k ds (enters k ExchangeSide.Collecting []) (keeps k)
 -- the digits so far: none at all though the number is whole, a whole number, or more to come
 abbrev pub dials : ℕ → Bool → Call → Digits → Effect
 dials full complete k ds =
-    if is_empty_whole complete ds.count then spurns k ds else (if is_whole full complete ds.count then proceeds k ds else awaits k ds)
+    if is_empty_whole complete ds.count then spurns k ds else if is_whole full complete ds.count then proceeds k ds else awaits k ds
 
 -- the digits so far with those that came; where they are too many, the earlier ones stay
 abbrev pub collects : ℕ → Bool → Call → Option Digits → Effect
@@ -346,8 +346,8 @@ progress_news false told = if told.interworking || told.inband then None else So
 
 abbrev pub news_of : ℕ → Bool → Told → Option News
 news_of s media told =
-    if told.alerting then None else (if s == Names.ringing then Some News.Alerting
-    else (if nat_le 181 s && nat_le s Names.session_progress then progress_news media told else None))
+    if told.alerting then None else if s == Names.ringing then Some News.Alerting
+    else if nat_le 181 s && nat_le s Names.session_progress then progress_news media told else None
 
 -- nothing is sent, and nothing changes
 abbrev pub rests : Call → Effect

@@ -137,7 +137,7 @@ rejects m v = Reply (rejection m.reference v ∷ []) []
 -- not. A SETUP that is read names a channel.
 abbrev pub granted : States → Option ℕ → Option Channel → Option ℕ
 granted pool pick None = pick
-granted pool pick (Some w) = if idle (pool w.number) then Some w.number else (if w.exclusive then None else pick)
+granted pool pick (Some w) = if idle (pool w.number) then Some w.number else if w.exclusive then None else pick
 
 -- the cause where a wish gets no channel: an exclusive one is not available, for another there is none at all
 abbrev pub busy_cause : Option Channel → ℕ
@@ -175,7 +175,7 @@ on_message st ch m (Some f) = at f.place (on_type st.full ch.pick m f.call m.kin
 -- the status that answers an INVITE whose digits make no call: none at all, too many, or no digits
 abbrev pub dialling_status : List ℕ → Option ℕ
 dialling_status xs =
-    if is_nothing xs then Some Names.address_incomplete else (if nat_le (length xs) 20 && all_digits xs then None else Some Names.not_found)
+    if is_nothing xs then Some Names.address_incomplete else if nat_le (length xs) 20 && all_digits xs then None else Some Names.not_found
 
 -- a final response that makes no call
 abbrev pub replies : ℕ → ℕ → Outcome
@@ -230,8 +230,8 @@ is_other_success s = nat_le 201 s && nat_le s 299
 abbrev pub on_response : List (Option Call) → ℕ → ℕ → ℕ → Bool → Outcome
 on_response table n s d media =
     if s == Names.ok then accepted n d (seek (holds_dialogue d) table) (seek (by_live_number n) table)
-    else (if is_other_success s then Reply [] (SipMessage.Ack n d ∷ [])
-    else at_call (λ k. Ok (on_other s media k)) (seek (by_awaited_number n) table))
+    else if is_other_success s then Reply [] (SipMessage.Ack n d ∷ [])
+    else at_call (λ k. Ok (on_other s media k)) (seek (by_awaited_number n) table)
 
 -- ---------------------------------------------------------------- every event
 -- two messages find a place in either queue

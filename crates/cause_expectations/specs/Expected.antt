@@ -1,12 +1,12 @@
 -- What the list says of a number: the first entry that covers it counts.
-use Rattle.std.specs.Prelude.{ℕ, Bool, false, cond, ◌&&◌, List, [], ◌∷◌, Some, None, Option, ◌==◌}
+use Rattle.std.specs.Prelude.{ℕ, Bool, false, if◌then◌else◌, ◌&&◌, List, [], ◌∷◌, Some, None, Option, ◌==◌}
 use Rattle.cause_expectations.specs.declared.entry.CauseEntry.{CauseEntry}
 use Rattle.cause_expectations.specs.declared.entry.StatusEntry.{StatusEntry}
 use Rattle.cause_expectations.specs.Covering.{cause_covers, status_covers}
 
 abbrev pub first_covering : {E A : Type 0} → (E → Bool) → (E → A) → List E → Option A
 first_covering covers answer [] = None
-first_covering covers answer (e ∷ rest) = cond (covers e) (Some (answer e)) (first_covering covers answer rest)
+first_covering covers answer (e ∷ rest) = if covers e then Some (answer e) else first_covering covers answer rest
 
 abbrev pub expected_status : List CauseEntry → ℕ → ℕ → Option ℕ
 expected_status entries cause location = first_covering (λ e. cause_covers e cause location) (λ e. e.status) entries

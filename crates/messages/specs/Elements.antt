@@ -1,5 +1,5 @@
 -- What each information element holds, by its contents, and how a message's elements are elements_from.
-use Rattle.std.specs.Prelude.{ℕ, ◌+◌, ◌%◌, Bool, true, false, cond, ◌&&◌, ◌||◌, List, length, drop, Some, None, Ok, Err, Option, Result, ◌==◌, nat_le, slice_index}
+use Rattle.std.specs.Prelude.{ℕ, ◌+◌, ◌%◌, Bool, true, false, if◌then◌else◌, ◌&&◌, ◌||◌, List, length, drop, Some, None, Ok, Err, Option, Result, ◌==◌, nat_le, slice_index}
 use Rattle.std.specs.List.{list_all}
 use Rattle.refusals.specs.declared.Ground.{Ground}
 use Rattle.refusals.specs.declared.Ground.TheVariants.{BadElement}
@@ -23,43 +23,43 @@ all_digits xs = list_all is_digit xs
 -- Cause: two contents or more, the first two from 80 up; four bits of location, then seven bits of cause
 abbrev pub cause_of : List ℕ → Option Cause
 cause_of xs =
-    cond (nat_le 2 (length xs) && (nat_le 128 (slice_index xs 0) && nat_le 128 (slice_index xs 1)))
-    (Some (record { value = slice_index xs 1 % 128; location = slice_index xs 0 % 16 })) None
+    if nat_le 2 (length xs) && (nat_le 128 (slice_index xs 0) && nat_le 128 (slice_index xs 1))
+    then Some (record { value = slice_index xs 1 % 128; location = slice_index xs 0 % 16 }) else None
 
 -- Channel: exactly three contents: A9 (exclusive) or A1 (preferred), 83, and 80 plus the channel from 1 on
 abbrev pub channel_of : List ℕ → Option Channel
 channel_of xs =
-    cond (length xs == 3 && ((slice_index xs 0 == 169 || slice_index xs 0 == 161) && (slice_index xs 1 == 131 && nat_le 129 (slice_index xs 2))))
-    (Some (record { number = slice_index xs 2 % 128; exclusive = (slice_index xs 0 == 169) })) None
+    if length xs == 3 && ((slice_index xs 0 == 169 || slice_index xs 0 == 161) && (slice_index xs 1 == 131 && nat_le 129 (slice_index xs 2)))
+    then Some (record { number = slice_index xs 2 % 128; exclusive = (slice_index xs 0 == 169) }) else None
 
 -- Progress: exactly two contents from 80 up; the second's seven bits are the description
 abbrev pub progress_of : List ℕ → Option ℕ
-progress_of xs = cond (length xs == 2 && (nat_le 128 (slice_index xs 0) && nat_le 128 (slice_index xs 1))) (Some (slice_index xs 1 % 128)) None
+progress_of xs = if length xs == 2 && (nat_le 128 (slice_index xs 0) && nat_le 128 (slice_index xs 1)) then Some (slice_index xs 1 % 128) else None
 
 -- Called number: one content from 80 up, then digits, perhaps none; they begin three octets behind the element's first
 abbrev pub digits_of : ℕ → List ℕ → Option DigitsPart
 digits_of place xs =
-    cond (nat_le 1 (length xs) && (nat_le 128 (slice_index xs 0) && all_digits (drop 1 xs)))
-    (Some (record { place = place + 3; octets = drop 1 xs })) None
+    if nat_le 1 (length xs) && (nat_le 128 (slice_index xs 0) && all_digits (drop 1 xs))
+    then Some (record { place = place + 3; octets = drop 1 xs }) else None
 
 -- no element seen yet
 abbrev pub bare : {D : Type 0} → Elements D
 bare = record { complete = false; cause = None; channel = None; progress = None; digits = None }
 
 abbrev pub with_complete : {D : Type 0} → Elements D → Elements D
-with_complete e = record { complete = true; cause = e.cause; channel = e.channel; progress = e.progress; digits = e.digits }
+with_complete e = record e { complete = true }
 
 abbrev pub with_cause : {D : Type 0} → Elements D → Option Cause → Elements D
-with_cause e o = record { complete = e.complete; cause = o; channel = e.channel; progress = e.progress; digits = e.digits }
+with_cause e o = record e { cause = o }
 
 abbrev pub with_channel : {D : Type 0} → Elements D → Option Channel → Elements D
-with_channel e o = record { complete = e.complete; cause = e.cause; channel = o; progress = e.progress; digits = e.digits }
+with_channel e o = record e { channel = o }
 
 abbrev pub with_progress : {D : Type 0} → Elements D → Option ℕ → Elements D
-with_progress e o = record { complete = e.complete; cause = e.cause; channel = e.channel; progress = o; digits = e.digits }
+with_progress e o = record e { progress = o }
 
 abbrev pub with_digits : {D : Type 0} → Elements D → Option D → Elements D
-with_digits e o = record { complete = e.complete; cause = e.cause; channel = e.channel; progress = e.progress; digits = o }
+with_digits e o = record e { digits = o }
 
 abbrev pub absent : {B : Type 0} → Option B → Bool
 absent None = true
@@ -77,10 +77,10 @@ kept place (Some x) take = Ok (take (Some x))
 -- one element joins those seen before it: the first of each kind is read, 90 to 9F are refused, all else is skipped
 abbrev pub noted : ℕ → ℕ → List ℕ → Elements DigitsPart → Result (Elements DigitsPart) Misread
 noted id place contents seen =
-    cond (nat_le 144 id && nat_le id 159) (Err (misread BadElement place))
-    (cond (id == 161) (Ok (with_complete seen))
-    (cond (id == 8 && absent seen.cause) (kept place (cause_of contents) (with_cause seen))
-    (cond (id == 24 && absent seen.channel) (kept place (channel_of contents) (with_channel seen))
-    (cond (id == 30 && absent seen.progress) (kept place (progress_of contents) (with_progress seen))
-    (cond (id == 112 && absent seen.digits) (kept place (digits_of place contents) (with_digits seen))
-    (Ok seen))))))
+    if nat_le 144 id && nat_le id 159 then Err (misread BadElement place)
+    else if id == 161 then Ok (with_complete seen)
+    else if id == 8 && absent seen.cause then kept place (cause_of contents) (with_cause seen)
+    else if id == 24 && absent seen.channel then kept place (channel_of contents) (with_channel seen)
+    else if id == 30 && absent seen.progress then kept place (progress_of contents) (with_progress seen)
+    else if id == 112 && absent seen.digits then kept place (digits_of place contents) (with_digits seen)
+    else Ok seen

@@ -1,5 +1,5 @@
 -- What a string of octets reads as: a message, or a refusal with its place.
-use Rattle.std.specs.Prelude.{ℕ, zero, suc, ◌+◌, ◌*◌, ◌%◌, Bool, cond, not, ◌&&◌, ◌||◌, List, [], ◌∷◌, length, take, drop, Some, None, Ok, Err, Option, Result, ◌==◌, nat_le, nat_lt, slice_index}
+use Rattle.std.specs.Prelude.{ℕ, zero, suc, ◌+◌, ◌*◌, ◌%◌, Bool, if◌then◌else◌, not, ◌&&◌, ◌||◌, List, [], ◌∷◌, length, take, drop, Some, None, Ok, Err, Option, Result, ◌==◌, nat_le, nat_lt, slice_index}
 use Rattle.refusals.specs.declared.Ground.{Ground}
 use Rattle.refusals.specs.declared.Ground.TheVariants.{TooFewOctets, WrongDiscriminator, UnknownType, ElementPastEnd, IncompleteSetup, BadReference}
 use Rattle.messages.specs.declared.kind.MessageType.{MessageType}
@@ -35,24 +35,24 @@ bad_reference reference kind = reference.number == 0 || (is_setup kind && refere
 abbrev pub typed : List ℕ → Option MessageType → Result Heading Misread
 typed xs None = refuse UnknownType 4
 typed xs (Some kind) =
-    cond (bad_reference (reference_of xs) kind) (refuse BadReference 2)
-    (Ok (record { reference = reference_of xs; kind = kind; elements = drop 5 xs }))
+    if bad_reference (reference_of xs) kind then refuse BadReference 2
+    else Ok (record { reference = reference_of xs; kind = kind; elements = drop 5 xs })
 
 abbrev pub headed : List ℕ → Result Heading Misread
 headed xs =
-    cond (nat_lt (length xs) 5) (refuse TooFewOctets (length xs))
-    (cond (not (slice_index xs 0 == 8)) (refuse WrongDiscriminator 0)
-    (cond (not (slice_index xs 1 == 2)) (refuse WrongDiscriminator 1)
-    (typed xs (type_of (slice_index xs 4)))))
+    if nat_lt (length xs) 5 then refuse TooFewOctets (length xs)
+    else if not (slice_index xs 0 == 8) then refuse WrongDiscriminator 0
+    else if not (slice_index xs 1 == 2) then refuse WrongDiscriminator 1
+    else typed xs (type_of (slice_index xs 4))
 
 -- skip octets are passed over, and then an element begins at place: alone from 80 up, else with a length octet and contents
 abbrev pub elements_from : ℕ → ℕ → List ℕ → Elements DigitsPart → Result (Elements DigitsPart) Misread
 elements_from skip place [] seen = Ok seen
 elements_from (suc k) place (x ∷ xs) seen = elements_from k (place + 1) xs seen
 elements_from zero place (x ∷ xs) seen =
-    cond (nat_le 128 x) (and_then (noted x place [] seen) (λ more. elements_from 0 (place + 1) xs more))
-    (cond (nat_lt (length xs) (slice_index xs 0 + 1)) (refuse ElementPastEnd place)
-    (and_then (noted x place (take (slice_index xs 0) (drop 1 xs)) seen) (λ more. elements_from (slice_index xs 0 + 1) (place + 1) xs more)))
+    if nat_le 128 x then and_then (noted x place [] seen) (λ more. elements_from 0 (place + 1) xs more)
+    else if nat_lt (length xs) (slice_index xs 0 + 1) then refuse ElementPastEnd place
+    else and_then (noted x place (take (slice_index xs 0) (drop 1 xs)) seen) (λ more. elements_from (slice_index xs 0 + 1) (place + 1) xs more)
 
 -- a SETUP names a channel and a called number
 abbrev pub lacking : {D : Type 0} → MessageType → Elements D → Bool
@@ -60,8 +60,8 @@ lacking kind e = is_setup kind && (absent e.channel || absent e.digits)
 
 abbrev pub whole : ℕ → Heading → Elements DigitsPart → Result (Message DigitsPart) Misread
 whole size h e =
-    cond (lacking h.kind e) (refuse IncompleteSetup size)
-    (Ok (record { reference = h.reference; kind = h.kind; elements = e }))
+    if lacking h.kind e then refuse IncompleteSetup size
+    else Ok (record { reference = h.reference; kind = h.kind; elements = e })
 
 -- the message that the octets are
 abbrev pub decoded : List ℕ → Result (Message DigitsPart) Misread

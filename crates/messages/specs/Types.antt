@@ -1,5 +1,5 @@
 -- The octet of each message type.
-use Rattle.std.specs.Prelude.{◌≡◌, ℕ, Bool, true, false, cond, Some, None, Ok, Err, Option, Result, ◌==◌}
+use Rattle.std.specs.Prelude.{◌≡◌, ℕ, Bool, true, false, if◌then◌else◌, Some, None, Ok, Err, Option, Result, ◌==◌}
 use Rattle.messages.specs.declared.kind.MessageType.{MessageType}
 use Rattle.messages.specs.declared.kind.UnknownCode.{UnknownCode}
 use Rattle.messages.specs.declared.kind.MessageType.TheVariants.{Alerting, CallProceeding, Progress, Setup, Connect, SetupAcknowledge, ConnectAcknowledge, Disconnect, Release, ReleaseComplete, Information}
@@ -20,17 +20,17 @@ code_of Information = 0x7b
 -- the type that an octet stands for, if any
 abbrev pub type_of : ℕ → Option MessageType
 type_of code =
-    cond (code == 0x01) (Some Alerting)
-    (cond (code == 0x02) (Some CallProceeding)
-    (cond (code == 0x03) (Some Progress)
-    (cond (code == 0x05) (Some Setup)
-    (cond (code == 0x07) (Some Connect)
-    (cond (code == 0x0d) (Some SetupAcknowledge)
-    (cond (code == 0x0f) (Some ConnectAcknowledge)
-    (cond (code == 0x45) (Some Disconnect)
-    (cond (code == 0x4d) (Some Release)
-    (cond (code == 0x5a) (Some ReleaseComplete)
-    (cond (code == 0x7b) (Some Information) None))))))))))
+    if code == 0x01 then Some Alerting
+    else if code == 0x02 then Some CallProceeding
+    else if code == 0x03 then Some Progress
+    else if code == 0x05 then Some Setup
+    else if code == 0x07 then Some Connect
+    else if code == 0x0d then Some SetupAcknowledge
+    else if code == 0x0f then Some ConnectAcknowledge
+    else if code == 0x45 then Some Disconnect
+    else if code == 0x4d then Some Release
+    else if code == 0x5a then Some ReleaseComplete
+    else if code == 0x7b then Some Information else None
 
 -- the octet's type, or the octet back where it stands for none
 abbrev pub type_or_code : ℕ → Option MessageType → Result MessageType UnknownCode
@@ -41,14 +41,5 @@ abbrev pub Decodes : ℕ → Result MessageType UnknownCode → Type 0
 Decodes code r = r ≡ type_or_code code (type_of code)
 
 abbrev pub is_setup : MessageType → Bool
-is_setup Alerting = false
-is_setup CallProceeding = false
-is_setup Progress = false
 is_setup Setup = true
-is_setup Connect = false
-is_setup SetupAcknowledge = false
-is_setup ConnectAcknowledge = false
-is_setup Disconnect = false
-is_setup Release = false
-is_setup ReleaseComplete = false
-is_setup Information = false
+is_setup _ = false

@@ -1,5 +1,5 @@
 -- The octets that a message is written as, and when it can be written.
-use Rattle.std.specs.Prelude.{ℕ, ◌+◌, ◌/◌, ◌%◌, Bool, true, cond, not, ◌&&◌, List, [], ◌∷◌, ◌++◌, length, drop, Some, None, Ok, Err, Option, Result, nat_le, nat_lt}
+use Rattle.std.specs.Prelude.{ℕ, ◌+◌, ◌/◌, ◌%◌, Bool, true, if◌then◌else◌, not, ◌&&◌, List, [], ◌∷◌, ◌++◌, length, drop, Some, None, Ok, Err, Option, Result, nat_le, nat_lt}
 use Rattle.refusals.specs.declared.Ground.{Ground}
 use Rattle.refusals.specs.declared.Ground.TheVariants.{FieldOutOfRange, IncompleteSetup, BufferTooShort}
 use Rattle.messages.specs.declared.kind.MessageType.{MessageType}
@@ -18,15 +18,15 @@ element id contents = id ∷ length contents ∷ contents
 
 abbrev pub head_octets : CallReference → MessageType → List ℕ
 head_octets reference kind =
-    8 ∷ 2 ∷ (cond reference.flag 128 0 + reference.number / 256) ∷ (reference.number % 256) ∷ code_of kind ∷ []
+    8 ∷ 2 ∷ ((if reference.flag then 128 else 0) + reference.number / 256) ∷ (reference.number % 256) ∷ code_of kind ∷ []
 
 -- Sending complete
 abbrev pub complete_octets : Bool → List ℕ
-complete_octets complete = cond complete (161 ∷ []) []
+complete_octets complete = if complete then 161 ∷ [] else []
 
 -- Bearer capability, the same in every SETUP: 3.1 kHz audio, 64 kbit/s, A-law
 abbrev pub bearer_octets : MessageType → List ℕ
-bearer_octets kind = cond (is_setup kind) (element 4 (128 ∷ 144 ∷ 163 ∷ [])) []
+bearer_octets kind = if is_setup kind then element 4 (128 ∷ 144 ∷ 163 ∷ []) else []
 
 abbrev pub cause_octets : Option Cause → List ℕ
 cause_octets None = []
@@ -34,7 +34,7 @@ cause_octets (Some c) = element 8 ((128 + c.location) ∷ (128 + c.value) ∷ []
 
 abbrev pub channel_octets : Option Channel → List ℕ
 channel_octets None = []
-channel_octets (Some c) = element 24 (cond c.exclusive 169 161 ∷ 131 ∷ (128 + c.number) ∷ [])
+channel_octets (Some c) = element 24 ((if c.exclusive then 169 else 161) ∷ 131 ∷ (128 + c.number) ∷ [])
 
 abbrev pub progress_octets : Option ℕ → List ℕ
 progress_octets None = []
@@ -84,9 +84,9 @@ is_writable m =
 -- what writing into a buffer of so many octets answers: how many octets were written, or the first ground that holds
 abbrev pub writes : ℕ → Message (List ℕ) → Result ℕ Ground
 writes room m =
-    cond (not (is_writable m)) (Err FieldOutOfRange)
-    (cond (lacking m.kind m.elements) (Err IncompleteSetup)
-    (cond (nat_lt room (length (encoded m))) (Err BufferTooShort) (Ok (length (encoded m)))))
+    if not (is_writable m) then Err FieldOutOfRange
+    else if lacking m.kind m.elements then Err IncompleteSetup
+    else if nat_lt room (length (encoded m)) then Err BufferTooShort else Ok (length (encoded m))
 
 -- the buffer behind a writing: the message at its front and the rest as it was, or all as it was
 abbrev pub buffer_after : List ℕ → Message (List ℕ) → Result ℕ Ground → List ℕ

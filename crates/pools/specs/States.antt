@@ -1,5 +1,5 @@
 -- What a pool holds each channel number to be, and what each operation makes of it.
-use Rattle.std.specs.Prelude.{◌≡◌, ℕ, Bool, true, false, cond, Some, None, Option, ◌==◌}
+use Rattle.std.specs.Prelude.{◌≡◌, ℕ, Bool, true, false, if◌then◌else◌, Some, None, Option, ◌==◌}
 use Rattle.pools.specs.declared.channel.ChannelState.{ChannelState}
 use Rattle.pools.specs.declared.channel.ChannelState.TheVariants.{Unknown, Idle, Seized}
 
@@ -10,32 +10,29 @@ States = ℕ → ChannelState
 -- is it one of the pool's channels
 abbrev pub known : ChannelState → Bool
 known Unknown = false
-known Idle = true
-known Seized = true
+known _ = true
 
 -- may it be seized
 abbrev pub idle : ChannelState → Bool
-idle Unknown = false
 idle Idle = true
-idle Seized = false
+idle _ = false
 
 -- may it be released
 abbrev pub seized : ChannelState → Bool
-seized Unknown = false
-seized Idle = false
 seized Seized = true
+seized _ = false
 
 -- channel c in state x, and every other as it was
 abbrev pub put : States → ℕ → ChannelState → States
-put s c x k = cond (k == c) x (s k)
+put s c x k = if k == c then x else s k
 
 -- the states after a seizure of c, granted or not
 abbrev pub after_seize : Bool → ℕ → States → States
-after_seize granted c s k = cond granted (put s c Seized k) (s k)
+after_seize granted c s k = if granted then put s c Seized k else s k
 
 -- the states after a release of c, granted or not
 abbrev pub after_release : Bool → ℕ → States → States
-after_release granted c s k = cond granted (put s c Idle k) (s k)
+after_release granted c s k = if granted then put s c Idle k else s k
 
 -- the states after a seizure that answered this channel, or none
 abbrev pub after_any : Option ℕ → States → States

@@ -1,5 +1,5 @@
 -- What waits in a ring of places.
-use Rattle.std.specs.Prelude.{ℕ, ◌+◌, ◌-◌, cond, List, [], ◌∷◌, ◌++◌, take, drop, Some, None, Option, ◌==◌, nat_lt}
+use Rattle.std.specs.Prelude.{ℕ, ◌+◌, ◌-◌, if◌then◌else◌, List, [], ◌∷◌, ◌++◌, take, drop, Some, None, Option, ◌==◌, nat_lt}
 
 -- the places in the order in which they are used
 unfoldable pub ring : {M : Type 0} → List (Option M) → ℕ → List (Option M)
@@ -17,8 +17,8 @@ in_ring places first len = messages_in (take len (ring places first))
 
 -- the place behind `len` used ones from `first` on, of `count` places
 abbrev pub behind : ℕ → ℕ → ℕ → ℕ
-behind first len count = cond (nat_lt len (count - first)) (first + len) (len - (count - first))
+behind first len count = if nat_lt len (count - first) then first + len else len - (count - first)
 
 -- the place after `at`, of `count` places
 abbrev pub place_after : ℕ → ℕ → ℕ
-place_after at count = cond (at + 1 == count) 0 (at + 1)
+place_after at count = if at + 1 == count then 0 else at + 1

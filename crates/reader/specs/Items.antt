@@ -1,5 +1,5 @@
 -- The elements of a message one after another.
-use Rattle.std.specs.Prelude.{◌≡◌, ℕ, ◌+◌, cond, List, [], length, take, drop, Some, None, Ok, Err, Option, Result, nat_le, nat_lt, slice_index}
+use Rattle.std.specs.Prelude.{◌≡◌, ℕ, ◌+◌, if◌then◌else◌, List, [], length, take, drop, Some, None, Ok, Err, Option, Result, nat_le, nat_lt, slice_index}
 use Rattle.std.specs.Option.{option_map}
 use denote.Ref.{Bor}
 use Rattle.refusals.specs.declared.Ground.TheVariants.{BadElement}
@@ -15,9 +15,9 @@ use Rattle.reader.specs.Seen.{seen_elements}
 -- an element's contents by its identifier and the octets behind that, and the octets behind the element
 abbrev pub parts_of : ℕ → List ℕ → Option (List ℕ × List ℕ)
 parts_of id xs =
-    cond (nat_le 128 id) (Some ([], xs))
-    (cond (nat_lt (length xs) (slice_index xs 0 + 1)) None
-    (Some (take (slice_index xs 0) (drop 1 xs), drop (slice_index xs 0 + 1) xs)))
+    if nat_le 128 id then Some ([], xs)
+    else if nat_lt (length xs) (slice_index xs 0 + 1) then None
+    else Some (take (slice_index xs 0) (drop 1 xs), drop (slice_index xs 0 + 1) xs)
 
 abbrev pub seen_parts : Option (Bor (List ℕ) × Bor (List ℕ)) → Option (List ℕ × List ℕ)
 seen_parts o = option_map (λ p. (p.0.now, p.1.now)) o

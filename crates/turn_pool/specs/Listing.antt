@@ -1,14 +1,14 @@
 -- Which channels a pool may have: 1 to 64 different numbers from 1 to 127.
-use Rattle.std.specs.Prelude.{◌≡◌, ℕ, ◌+◌, ◌≤◌, Bool, true, false, cond, List, length, ◌==◌, nat_lt}
+use Rattle.std.specs.Prelude.{◌≡◌, ℕ, ◌+◌, ◌≤◌, Bool, true, false, if◌then◌else◌, List, length, ◌==◌, nat_lt}
 use Rattle.turn_pool.specs.Lists.{once, times}
 
 -- from 1 to 64
 abbrev pub counted : ℕ → Bool
-counted n = cond (n == 0) false (nat_lt n 65)
+counted n = if n == 0 then false else nat_lt n 65
 
 -- from 1 to 127
 abbrev pub number : ℕ → Bool
-number k = cond (k == 0) false (nat_lt k 128)
+number k = if k == 0 then false else nat_lt k 128
 
 -- a number from 1 to 127 stands in the list at most once, any other never
 abbrev pub Different : List ℕ → Type 0

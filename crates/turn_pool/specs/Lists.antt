@@ -1,9 +1,9 @@
 -- Words on lists of channel numbers.
-use Rattle.std.specs.Prelude.{◌≡◌, ℕ, ◌+◌, ◌<◌, Bool, cond, List, [], ◌∷◌, length, Some, None, Option, ◌==◌, ◌≢◌, slice_index}
+use Rattle.std.specs.Prelude.{◌≡◌, ℕ, ◌+◌, ◌<◌, Bool, if◌then◌else◌, List, [], ◌∷◌, length, Some, None, Option, ◌==◌, ◌≢◌, slice_index}
 
 -- 1 for yes, 0 for no
 abbrev pub once : Bool → ℕ
-once b = cond b 1 0
+once b = if b then 1 else 0
 
 -- how often channel c stands in a list
 abbrev pub times : ℕ → List ℕ → ℕ
@@ -23,7 +23,7 @@ rest (x ∷ xs) = xs
 -- the list without the first c in it; the others keep their order
 abbrev pub without : ℕ → List ℕ → List ℕ
 without c [] = []
-without c (x ∷ xs) = cond (x == c) xs (x ∷ without c xs)
+without c (x ∷ xs) = if x == c then xs else x ∷ without c xs
 
 -- the first place of channel c in a list; or none, where it does not stand there
 abbrev pub FirstAt : Option ℕ → ℕ → List ℕ → Type 0

@@ -1,5 +1,5 @@
 -- What the two lists of a pool mean, and what a move of a channel from one to the other means.
-use Rattle.std.specs.Prelude.{◌≡◌, ℕ, Bool, cond, List, nat_lt}
+use Rattle.std.specs.Prelude.{◌≡◌, ℕ, Bool, if◌then◌else◌, List, nat_lt}
 use Rattle.pools.specs.declared.channel.ChannelState.{ChannelState}
 use Rattle.pools.specs.declared.channel.ChannelState.TheVariants.{Unknown, Idle, Seized}
 use Rattle.pools.specs.States.{States, idle, seized, after_seize, after_release}
@@ -8,7 +8,7 @@ use Rattle.turn_pool.specs.Listing.{Apart}
 
 -- by how often a channel stands among the idle and among the seized
 abbrev pub by_times : ℕ → ℕ → ChannelState
-by_times m n = cond (nat_lt 0 m) Idle (cond (nat_lt 0 n) Seized Unknown)
+by_times m n = if nat_lt 0 m then Idle else if nat_lt 0 n then Seized else Unknown
 
 -- a channel is idle or seized by the list in which it stands
 abbrev pub shown : List ℕ → List ℕ → States

@@ -1,5 +1,5 @@
 -- What an element leaves in the octets that it is written to, on every way out.
-use Rattle.std.specs.Prelude.{◌≡◌, ℕ, ◌+◌, ◌-◌, min, Bool, cond, ◌&&◌, List, ◌∷◌, ◌++◌, length, take, drop, Ok, Err, Result, ◌==◌, nat_lt}
+use Rattle.std.specs.Prelude.{◌≡◌, ℕ, ◌+◌, ◌-◌, min, Bool, if◌then◌else◌, ◌&&◌, List, ◌∷◌, ◌++◌, length, take, drop, Ok, Err, Result, ◌==◌, nat_lt}
 use Rattle.refusals.specs.declared.Ground.{Ground}
 use Rattle.refusals.specs.declared.Ground.TheVariants.{BufferTooShort}
 
@@ -18,13 +18,13 @@ placed buffer contents = min (length contents) (min 255 (length buffer - 2))
 -- the octets behind a writing
 abbrev pub element_buffer : List ℕ → ℕ → List ℕ → List ℕ
 element_buffer buffer id contents =
-    cond (nat_lt (length buffer) 2) buffer (over buffer id (placed buffer contents) contents)
+    if nat_lt (length buffer) 2 then buffer else over buffer id (placed buffer contents) contents
 
 -- how many octets the element takes, where all its contents found a place
 abbrev pub element_answer : List ℕ → List ℕ → Result ℕ Ground
 element_answer buffer contents =
-    cond (nat_lt (length buffer) 2) (Err BufferTooShort)
-    (cond (placed buffer contents == length contents) (Ok (2 + length contents)) (Err BufferTooShort))
+    if nat_lt (length buffer) 2 then Err BufferTooShort
+    else if placed buffer contents == length contents then Ok (2 + length contents) else Err BufferTooShort
 
 -- the only ground on which an octet is refused
 abbrev pub ShortOnly : Result Unit Ground → Type 0
