@@ -1,5 +1,6 @@
 -- The 64 places of the table of calls: the channels that they hold, and how tokens go in and out.
-use Rattle.std.specs.Prelude.{◌≡◌, ℕ, Bool, true, false, if◌then◌else◌, not, ◌&&◌, List, is_some, Some, None, Ok, Err, Option, Result, ◌==◌, nat_lt, slice_index_or, slice_set}
+use Rattle.std.specs.Prelude.{◌≡◌, ℕ, Bool, true, false, if◌then◌else◌, not, ◌&&◌, List, is_some, is_none, Some, None, Ok, Err, Option, Result, ◌==◌, nat_lt, slice_index_or, slice_set}
+use Rattle.std.specs.Option.{option_and_then}
 use Rattle.calls.specs.declared.record.Call.{Call}
 use Rattle.calls.specs.Sides.{is_over, held_channel}
 use Rattle.call_table.specs.Tokens.{token_of}
@@ -7,21 +8,16 @@ use Rattle.call_table.specs.declared.token.Token.{Token}
 
 -- the channel that a place holds: its call's, while the exchange side is not over
 abbrev pub holding : Option Call → Option ℕ
-holding None = None
-holding (Some call) = held_channel call
+holding place = option_and_then held_channel place
 
 -- the channel that the place of this number holds: none from place 64 on
 abbrev pub held : List (Option Call) → ℕ → Option ℕ
 held places place = holding (slice_index_or places place None)
 
 -- ---------------------------------------------------------------- entering a call
-abbrev pub is_vacant : Option Call → Bool
-is_vacant None = true
-is_vacant (Some call) = false
-
 -- one of the 64 places, with no call in it
 abbrev pub is_free : List (Option Call) → ℕ → Bool
-is_free places place = if nat_lt place 64 then is_vacant (slice_index_or places place None) else false
+is_free places place = nat_lt place 64 && is_none (slice_index_or places place None)
 
 -- the call holds channel c
 abbrev pub is_holding : ℕ → Call → Bool
@@ -33,12 +29,10 @@ admits places place call c = is_holding c call && is_free places place
 
 -- a token that is not entered is handed back
 abbrev pub answered : Bool → Token → Result (Unit {0}) Token
-answered true token = Ok tt
-answered false token = Err token
+answered entered token = if entered then Ok tt else Err token
 
 abbrev pub after_entering : Bool → List (Option Call) → ℕ → Call → List (Option Call)
-after_entering true places place call = slice_set places place (Some call)
-after_entering false places place call = places
+after_entering entered places place call = if entered then slice_set places place (Some call) else places
 
 -- ---------------------------------------------------------------- changing a record
 -- with no token that comes in, a record holds the channel that it held, or none

@@ -1,5 +1,5 @@
 -- Tokens and the channels that they stand for.
-use Rattle.std.specs.Prelude.{ℕ, Bool, true, false, Some, None, Option}
+use Rattle.std.specs.Prelude.{ℕ, Bool, if◌then◌else◌, Some, None, Option}
 use Rattle.call_table.specs.declared.token.Token.{Token}
 
 -- the channel of a token, if there is one
@@ -9,8 +9,7 @@ token_channel (Some token) = Some token.channel
 
 -- channel c where it is granted, else none
 abbrev pub granted : Bool → ℕ → Option ℕ
-granted true c = Some c
-granted false c = None
+granted is_granted c = if is_granted then Some c else None
 
 -- the token of a channel, if there is one
 abbrev pub token_of : Option ℕ → Option Token

@@ -1,9 +1,7 @@
 -- What a step keeps at the one place of the table that it changes.
-use Rattle.std.proofs.Common.{◌≡◌, ℕ, ◌+◌, ◌≤◌, true, false, cond, Some, None, Option, sym, ap, ◌∙◌, arith}
+use Rattle.std.proofs.Common.{◌≡◌, ℕ, ◌+◌, ◌≤◌, true, false, cond, Some, None, Option, sym, refl, ap, ◌∙◌, arith}
 use Rattle.std.proofs.lemmas.Bool.Decides.{nat_tests}
-use Rattle.calls.specs.declared.record.Call.{Call}
-use Rattle.calls.specs.declared.record.Digits.{Digits}
-use Rattle.calls.specs.declared.sides.SipSide.{SipSide}
+use Rattle.calls.specs.Records.{Call, Digits, SipSide}
 use Rattle.std.proofs.lemmas.Bool.{cond_both}
 use Rattle.pools.specs.States.{States, idle}
 use Rattle.calls.specs.Sides.{is_over, sip_stage, is_gone, holds, owes, owes_from, on_call, named, connects_in, finals_in, bye_in}
@@ -53,7 +51,7 @@ gone_linked : (last : ℕ → Option ℕ) (k : Call) → Linked last k.sip → L
 gone_linked last k h = elim (is_gone k) as (λ b. LinkedAt last (cond b None (Some k))) [ true ↦ tt | false ↦ h ]
 
 gone_sound : (k : Call) → sides_agree k.exchange k.sip ≡ true → SoundAt (unless_gone k)
-gone_sound k h = elim (is_gone k) as (λ b. SoundAt (cond b None (Some k))) [ true ↦ tt | false ↦ h ]
+gone_sound k h = elim (is_gone k) as (λ b. SoundAt (cond b None (Some k))) [ true ↦ refl | false ↦ h ]
 
 gone_present : (k : Call) → PresentAt (unless_gone k)
 gone_present k = cond_both (is_gone k) None (Some k) PresentAt (λ _. tt) (λ e. e)

@@ -2,8 +2,7 @@
 use Rattle.std.proofs.Common.{◌≡◌, ℕ, zero, suc, ◌<◌, ◌≤◌, Bool, true, false, ◌⊎◌, List, [], ◌∷◌, length, get_or, Some, None, Option, refl, ap, ◌∙◌, inl, inr, ⊎_elim, le_of_suc-le-suc, not-suc-le-zero, arith}
 use Rattle.std.proofs.lemmas.Bool.{cases_lt}
 use Rattle.pools.specs.States.{States, idle, known, AnyWasIdle}
-use Rattle.pools.specs.declared.channel.ChannelState.{ChannelState}
-use Rattle.calls.specs.declared.record.Call.{Call}
+use Rattle.calls.specs.Records.{ChannelState, Call}
 use Rattle.calls.specs.Rules.{State, Choice, Fair, FreePlace}
 
 abbrev Busy : States → ℕ → Type 0

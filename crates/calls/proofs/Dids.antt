@@ -1,11 +1,8 @@
 -- How a step of the code comes to what the rules say.
 use Rattle.std.proofs.Common.{◌≡◌, ℕ, ◌≤◌, true, List, [], ◌∷◌, ◌++◌, drop, set, Some, None, Ok, Err, Option, sym, refl, ap, ◌∙◌, arith, MatchOption}
 use Rattle.std.proofs.lemmas.Bool.{cond-true}
-use Rattle.refusals.specs.declared.Ground.{Ground}
+use Rattle.calls.specs.Records.{Ground, Answer, Refused, Report}
 use Rattle.pools.specs.States.{States, after_any, known}
-use Rattle.calls.specs.declared.answers.Answer.{Answer}
-use Rattle.calls.specs.declared.answers.Refused.{Refused}
-use Rattle.calls.specs.declared.answers.Report.{Report}
 use Rattle.calls.specs.Effects.{Effect}
 use Rattle.calls.specs.Rules.{State, Choice, Fair, Outcome, Refuse, Change, refuse, Did, is_roomy, roomed, answer_of, applied, reported, freed, following, settled, first}
 use Rattle.calls.proofs.Choices.{Bounded, fair_choice}

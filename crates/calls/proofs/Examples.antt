@@ -4,7 +4,7 @@ use Rattle.messages.specs.Laws.{setup417_octets}
 use Rattle.messages.proofs.RoundTrip.{layout_examples}
 use Rattle.pools.specs.declared.channel.ChannelState.TheVariants.{Unknown, Idle, Seized}
 use Rattle.pools.specs.States.{idle}
-use Rattle.calls.specs.declared.answers.Answer.{Answer}
+use Rattle.calls.specs.Records.{Answer}
 use Rattle.calls.specs.Rules.{Event, Exchange, Invite, Response, TakeExchange, TakeSip, State, Choice, Fair, outcome, applied, answer_of, Stepping, no_step, next_step}
 use Rattle.calls.specs.Examples.{opened, seven_and_nine, seven_alone, digits, disconnect, unavailable, AnsweredAfterCancel, AnsweredTwice, TriedOnAnother, TriedInVain, Collisions, Examples}
 

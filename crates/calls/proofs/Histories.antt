@@ -2,7 +2,7 @@
 use Rattle.std.proofs.Common.{◌≡◌, ℕ, List, [], ◌∷◌, ◌++◌, map, reverse, sym, refl, ap, ◌∙◌, subst, arith}
 use mathlib.Core.List.{reverse-cons}
 use Rattle.std.proofs.lemmas.List.{map-append}
-use Rattle.calls.specs.declared.answers.Answer.{Answer}
+use Rattle.calls.specs.Records.{Answer}
 use Rattle.calls.specs.Rules.{Event, State, Stepped, Stepping, no_step, next_step, outcome, applied}
 use Rattle.calls.specs.Run.{Happening, happened, Run, opened, stepped, Tells}
 use Rattle.calls.specs.Laws.{RunLaw, RunsOn, RunsCompose}

@@ -1,25 +1,12 @@
 -- The rules of one call keep the balance.
 use Rattle.std.proofs.Common.{◌≡◌, ℕ, ◌<◌, ◌≤◌, Bool, true, false, cond, eqb, ◌⊎◌, List, [], ◌∷◌, ◌++◌, Some, None, Ok, Err, Option, Result, sym, refl, ap, ◌∙◌, subst, inl, inr, arith}
 use Rattle.std.proofs.lemmas.Bool.Decides.{nat_tests}
-use Rattle.refusals.specs.declared.Ground.{Ground}
-use Rattle.messages.specs.declared.kind.MessageType.{MessageType}
-use Rattle.messages.specs.declared.record.Cause.{Cause}
-use Rattle.messages.specs.declared.record.Message.{Message}
+use Rattle.calls.specs.Records.{Ground, MessageType, Cause, Message, Timer, SipMessage, Call, Digits, Origin, News, ExchangeSide, SipSide, Told}
 use Rattle.messages.specs.Elements.{DigitsPart}
 use Rattle.causes.specs.Names
-use Rattle.calls.specs.declared.answers.Timer.{Timer}
-use Rattle.calls.specs.declared.outgoing.SipMessage.{SipMessage}
-use Rattle.calls.specs.declared.record.Call.{Call}
-use Rattle.calls.specs.declared.record.Digits.{Digits}
-use Rattle.calls.specs.declared.record.Origin.{Origin}
-use Rattle.calls.specs.declared.sides.News.{News}
-use Rattle.calls.specs.declared.sides.ExchangeSide.{ExchangeSide}
-use Rattle.calls.specs.declared.sides.SipSide.{SipSide}
-use Rattle.calls.specs.declared.sides.Told.{Told}
-use Rattle.pools.specs.States.{States, idle}
+use Rattle.pools.specs.States.{States, idle, AnyWasIdle}
 use Rattle.std.proofs.lemmas.Bool.{cond_both, eqb-true}
 use Rattle.causes.proofs.Rows.{final_failure}
-use Rattle.pools.specs.States.{AnyWasIdle}
 use Rattle.calls.specs.Sides.{stage, is_over, is_unreleased, timer_of, is_timer, is_running, is_repeated, sip_stage, is_invite_sent, is_cancel_sent, awaits_response, is_unanswered, is_held_by, named}
 use Rattle.calls.specs.Effects.{ExchangeMove, SipMove, Effect, redialled, moved, stays, enters, ends, clears_exchange, retries, becomes, clears_sip, keeps, invites, responds, answers, leaves_sip, only, tell, counted, status_for, is_nothing, is_whole, is_empty_whole, meant, record_of, called_digits, proceeds, spurns, dials, collects, tries_again, asks_for_another, completed, on_type, gives_up, on_timer, on_expiry, on_cancel_expiry, rests, announces, news_of, tells, provisional, fails, ack_and_bye, accepts, leaves}
 use Rattle.calls.specs.Laws.{Brought, AnOk, ABye, NoneOfThese}

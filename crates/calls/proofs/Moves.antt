@@ -1,15 +1,8 @@
 -- What each move of one side keeps.
 use Rattle.std.proofs.Common.{◌≡◌, ℕ, ◌+◌, ◌<◌, ◌≤◌, true, false, ◌&&◌, ◌||◌, eqb, List, [], Some, Option, refl, arith}
 use Rattle.std.proofs.lemmas.Bool.Decides.{nat_tests}
-use Rattle.messages.specs.declared.record.CallReference.{CallReference}
-use Rattle.messages.specs.declared.record.Cause.{Cause}
-use Rattle.messages.specs.declared.record.Message.{Message}
+use Rattle.calls.specs.Records.{CallReference, Cause, Message, Call, Digits, Origin, ExchangeSide, SipSide}
 use Rattle.causes.specs.Names
-use Rattle.calls.specs.declared.record.Call.{Call}
-use Rattle.calls.specs.declared.record.Digits.{Digits}
-use Rattle.calls.specs.declared.record.Origin.{Origin}
-use Rattle.calls.specs.declared.sides.ExchangeSide.{ExchangeSide}
-use Rattle.calls.specs.declared.sides.SipSide.{SipSide}
 use Rattle.calls.specs.Sides.{stage, is_over, sip_stage, is_unanswered, is_up_on, is_held_by, holds_from, owes_from, one_if, named, connects_in, finals_in, bye_in}
 use Rattle.calls.specs.Effects.{ExchangeMove, SipMove, stays, enters, ends, clears_exchange, retries, becomes, clears_from, invites, responds, answers, leaves_sip}
 use Rattle.calls.specs.Laws.{Brought, ABye, NoneOfThese, is_ok_on, is_bye_on, sends}

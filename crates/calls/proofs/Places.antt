@@ -1,8 +1,7 @@
 -- The places of the table: a search, a sum, and one place that is replaced.
 use Rattle.std.proofs.Common.{◌≡◌, ℕ, zero, suc, ◌+◌, ◌<◌, ◌≤◌, Bool, true, false, List, [], ◌∷◌, length, get_or, set, replicate, Some, None, Option, refl, le_of_suc-le-suc, not-suc-le-zero, arith, MatchOption}
 use Rattle.std.proofs.lemmas.Bool.{cond_both}
-use Rattle.calls.specs.declared.record.Call.{Call}
-use Rattle.calls.specs.declared.record.Found.{Found}
+use Rattle.calls.specs.Records.{Call, Found}
 use Rattle.calls.specs.Sides.{on_call, sum_of}
 use Rattle.calls.specs.Standing.{Everywhere}
 use Rattle.calls.specs.Rules.{later, seek}

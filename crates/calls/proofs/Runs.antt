@@ -1,16 +1,9 @@
 -- Every run keeps the laws.
 use Rattle.std.proofs.Common.{◌≡◌, ℕ, zero, suc, ◌+◌, ◌<◌, ◌≤◌, Bool, true, false, cond, not, ◌&&◌, ◌||◌, eqb, ◌⊎◌, List, [], ◌∷◌, ◌++◌, length, get_or, drop, set, Some, None, Option, sym, refl, ap, ◌∙◌, subst, inl, inr, ⊎_elim, append_assoc, append-nil, arith}
 use Rattle.std.proofs.lemmas.Bool.Decides.{nat_tests}
-use Rattle.messages.specs.declared.record.Message.{Message}
-use Rattle.calls.specs.declared.outgoing.SipMessage.{SipMessage}
-use Rattle.calls.specs.declared.record.Call.{Call}
-use Rattle.calls.specs.declared.record.Digits.{Digits}
-use Rattle.calls.specs.declared.sides.ExchangeSide.{ExchangeSide}
-use Rattle.calls.specs.declared.sides.SipSide.{SipSide}
-use Rattle.pools.specs.States.{States, idle}
+use Rattle.calls.specs.Records.{Message, SipMessage, Call, Digits, ExchangeSide, SipSide, ChannelState}
+use Rattle.pools.specs.States.{States, idle, seized, after_any}
 use Rattle.std.proofs.lemmas.Bool.{cond_both, cond-true, eq-eqb, eqb-true}
-use Rattle.pools.specs.declared.channel.ChannelState.{ChannelState}
-use Rattle.pools.specs.States.{seized, after_any}
 use Rattle.calls.specs.Sides.{named, equals_some, holds, owes, owes_from, on_call, sum_of, one_if, bye_in, holds_dialogue, is_in, is_invite_sent}
 use Rattle.calls.specs.Effects.{Effect}
 use Rattle.calls.specs.Rules.{Event, State, Outcome, Refuse, Reply, Change, TookExchange, TookSip, outcome, applied, first, freed}
@@ -54,7 +47,7 @@ proceeds_while_out k f e = grind (arith, nat_tests)
 
 stands_at : (os : List (Option Call)) → Everywhere SoundAt os → Everywhere PresentAt os → (i : ℕ) (k : Call) → get_or os i None ≡ Some k → Stands k
 stands_at os s p i k e =
-    record { not_gone = subst PresentAt e (everywhere_at PresentAt tt os i p); invite_while_proceeding = proceeds_while_out k (subst SoundAt e (everywhere_at SoundAt tt os i s)) }
+    record { not_gone = subst PresentAt e (everywhere_at PresentAt tt os i p); invite_while_proceeding = proceeds_while_out k (subst SoundAt e (everywhere_at SoundAt refl os i s)) }
 
 inv_laws : (pool : States) (past : List Happening) (st : State) → Inv pool past st → Laws pool past st
 inv_laws pool past st v =
@@ -265,7 +258,7 @@ at_opening st o =
       talking = λ d e. absurd (grind arith);
       linked = subst (Everywhere (LinkedAt (last_dialogue []))) (sym o.calls) (everywhere_none (LinkedAt (last_dialogue [])) tt 64);
       connects = λ r. omega (arith, no (may_connect r));
-      sound = subst (Everywhere SoundAt) (sym o.calls) (everywhere_none SoundAt tt 64);
+      sound = subst (Everywhere SoundAt) (sym o.calls) (everywhere_none SoundAt refl 64);
       present = subst (Everywhere PresentAt) (sym o.calls) (everywhere_none PresentAt tt 64);
       exchange_queue = o.exchange;
       sip_queue = o.sip;

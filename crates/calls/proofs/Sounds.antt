@@ -1,7 +1,7 @@
 -- A table whose calls are sound at every place, as a test and as a fact of each place.
 use Rattle.std.proofs.Common.{◌≡◌, ℕ, zero, suc, Bool, true, ◌&&◌, List, [], ◌∷◌, set, Some, None, Option, refl, arith}
 use Rattle.std.proofs.lemmas.Bool.Decides.{nat_tests}
-use Rattle.calls.specs.declared.record.Call.{Call}
+use Rattle.calls.specs.Records.{Call}
 use Rattle.calls.specs.Standing.{Everywhere, SoundAt, is_sound_at, is_sound}
 
 both : (a b : Bool) → a ≡ true → b ≡ true → (a && b) ≡ true
@@ -13,17 +13,9 @@ first_of a b e = grind (arith, nat_tests)
 rest_of : (a b : Bool) → (a && b) ≡ true → b ≡ true
 rest_of a b e = grind (arith, nat_tests)
 
-sound_here : (o : Option Call) → is_sound_at o ≡ true → SoundAt o
-sound_here None e = tt
-sound_here (Some k) e = e
-
-pub sound_tested : (o : Option Call) → SoundAt o → is_sound_at o ≡ true
-sound_tested None h = refl
-sound_tested (Some k) h = h
-
 pub sound_everywhere : (os : List (Option Call)) → is_sound os ≡ true → Everywhere SoundAt os
 sound_everywhere [] e = tt
-sound_everywhere (o ∷ os) e = (sound_here o (first_of (is_sound_at o) (is_sound os) e), sound_everywhere os (rest_of (is_sound_at o) (is_sound os) e))
+sound_everywhere (o ∷ os) e = (first_of (is_sound_at o) (is_sound os) e, sound_everywhere os (rest_of (is_sound_at o) (is_sound os) e))
 
 -- one place is replaced by a sound one
 pub sound_set : (os : List (Option Call)) (i : ℕ) (o : Option Call) → is_sound os ≡ true → is_sound_at o ≡ true → is_sound (set os i o) ≡ true

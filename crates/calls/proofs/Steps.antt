@@ -1,23 +1,13 @@
 -- Every step keeps the balance at the place that it changes.
 use Rattle.std.proofs.Common.{◌≡◌, ℕ, ◌<◌, ◌≤◌, Bool, true, false, cond, ◌&&◌, eqb, leb, List, [], ◌∷◌, length, get_or, Some, None, Ok, Err, Option, Result, sym, refl, ap, ◌∙◌, subst, arith, MatchOption}
 use Rattle.std.proofs.lemmas.Bool.Decides.{nat_tests}
-use Rattle.refusals.specs.declared.Ground.{Ground}
-use Rattle.messages.specs.declared.kind.MessageType.{MessageType}
-use Rattle.messages.specs.declared.record.CallReference.{CallReference}
-use Rattle.messages.specs.declared.record.Channel.{Channel}
-use Rattle.messages.specs.declared.record.Message.{Message}
+use Rattle.calls.specs.Records.{Ground, MessageType, CallReference, Channel, Message, Misread, SipMessage, Call, Digits, Found}
 use Rattle.messages.specs.Elements.{DigitsPart}
 use Rattle.causes.specs.Names
-use Rattle.calls.specs.declared.outgoing.SipMessage.{SipMessage}
-use Rattle.calls.specs.declared.record.Call.{Call}
-use Rattle.calls.specs.declared.record.Digits.{Digits}
-use Rattle.calls.specs.declared.record.Found.{Found}
-use Rattle.pools.specs.States.{States, idle}
+use Rattle.pools.specs.States.{States, idle, AnyWasIdle}
 use Rattle.std.proofs.lemmas.Bool.{cond_both, and_parts}
-use Rattle.messages.specs.declared.record.Misread.{Misread}
 use Rattle.messages.specs.Reading.{decoded}
 use Rattle.messages.specs.Types.{is_setup}
-use Rattle.pools.specs.States.{AnyWasIdle}
 use Rattle.calls.specs.Sides.{is_over, awaits_response, owes, holds_dialogue, sum_of, one_if, named}
 use Rattle.calls.specs.Effects.{Effect, called_digits, is_whole, misdialled, cause_for, on_expiry, on_cancel_expiry, ack_and_bye, leaves, begins_proceeding, begins_collecting, begins, invited}
 use Rattle.calls.specs.Rules.{Event, Exchange, Invite, Cancel, Bye, Response, Expiry, CancelExpiry, TakeExchange, TakeSip, State, Choice, Fair, FreePlace, Outcome, Refuse, Reply, Change, TookExchange, TookSip, seek, by_reference, by_number, by_live_number, by_awaited_number, by_transaction, at, at_call, rejects, granted, seated, admitted, on_setup, turned_away, uncalled, on_message, replies, calls_out, dialling_status, unless_answered, on_invite, another, on_ok, accepted, on_other, is_other_success, on_response, is_roomy, roomed, on_octets, is_status, outcome}
@@ -49,19 +39,19 @@ fresh st ev u t e = absurd (omega (arith, u t, e))
 -- ---------------------------------------------------------------- answers without a call
 spoken_balanced : (pool : States) (ev : Brought) → Uninvited ev → Quiet ev → (ms : List (Message Digits)) → Mute ms → Balanced pool None ev (spoken ms [])
 spoken_balanced pool ev u q ms mute =
-    record { channels = λ c. refl; idle = λ c e. absurd (omega arith); invites = λ t. omega (arith, u t); connects = λ r. omega (arith, mute r); talking = λ d x y. omega arith; opening = λ d x y. absurd (let z = q d in grind arith); sending = λ last d x y. absurd (grind arith); linked = λ last x y. tt; sound = tt; present = tt }
+    record { channels = λ c. refl; idle = λ c e. absurd (omega arith); invites = λ t. omega (arith, u t); connects = λ r. omega (arith, mute r); talking = λ d x y. omega arith; opening = λ d x y. absurd (let z = q d in grind arith); sending = λ last d x y. absurd (grind arith); linked = λ last x y. tt; sound = refl; present = tt }
 
 answered_balanced : (pool : States) (t d s : ℕ) → Names.first_failure ≤ s → s ≤ Names.last_status → Balanced pool None (AnInvite t d) (spoken [] (SipMessage.Response t s ∷ []))
 answered_balanced pool t d s lo hi =
-    record { channels = λ c. refl; idle = λ c e. absurd (omega arith); invites = λ t. grind (arith, nat_tests); connects = λ r. omega arith; talking = λ d x y. omega arith; opening = λ d x y. absurd (grind arith); sending = λ last d x y. absurd (grind (arith, nat_tests)); linked = λ last x y. tt; sound = tt; present = tt }
+    record { channels = λ c. refl; idle = λ c e. absurd (omega arith); invites = λ t. grind (arith, nat_tests); connects = λ r. omega arith; talking = λ d x y. omega arith; opening = λ d x y. absurd (grind arith); sending = λ last d x y. absurd (grind (arith, nat_tests)); linked = λ last x y. tt; sound = refl; present = tt }
 
 declined_balanced : (pool : States) (n d : ℕ) → Balanced pool None (AnOk d) (spoken [] (ack_and_bye n d))
 declined_balanced pool n d =
-    record { channels = λ c. refl; idle = λ c e. absurd (omega arith); invites = λ t. refl; connects = λ r. omega arith; talking = λ d x y. omega arith; opening = λ d x y. absurd (grind (arith, nat_tests)); sending = λ last d x y. absurd (grind (arith, nat_tests)); linked = λ last x y. tt; sound = tt; present = tt }
+    record { channels = λ c. refl; idle = λ c e. absurd (omega arith); invites = λ t. refl; connects = λ r. omega arith; talking = λ d x y. omega arith; opening = λ d x y. absurd (grind (arith, nat_tests)); sending = λ last d x y. absurd (grind (arith, nat_tests)); linked = λ last x y. tt; sound = refl; present = tt }
 
 acked_balanced : (pool : States) (n d : ℕ) → Balanced pool None NoneOfThese (spoken [] (SipMessage.Ack n d ∷ []))
 acked_balanced pool n d =
-    record { channels = λ c. refl; idle = λ c e. absurd (omega arith); invites = λ t. refl; connects = λ r. omega arith; talking = λ d x y. omega arith; opening = λ d x y. absurd (grind arith); sending = λ last d x y. absurd (grind (arith, nat_tests)); linked = λ last x y. tt; sound = tt; present = tt }
+    record { channels = λ c. refl; idle = λ c e. absurd (omega arith); invites = λ t. refl; connects = λ r. omega arith; talking = λ d x y. omega arith; opening = λ d x y. absurd (grind arith); sending = λ last d x y. absurd (grind (arith, nat_tests)); linked = λ last x y. tt; sound = refl; present = tt }
 
 -- ---------------------------------------------------------------- new calls
 picked : (pool : States) (c : ℕ) → idle (pool c) ≡ true → (x : ℕ) → named x (Some c) ≡ 1 → idle (pool x) ≡ true
@@ -100,7 +90,7 @@ changes_at : (st : State) (ev : Brought) (p : Call → Bool) (x : Found) (e : Ef
 changes_at st ev p x e f h b = (f, h.inside, subst (λ (o : Option Call). Balanced st.pool o ev e) (sym h.here) b)
 
 sound_at : (st : State) (p : Call → Bool) (x : Found) → Everywhere SoundAt st.table → Finds p st.table x → sides_agree x.call.exchange x.call.sip ≡ true
-sound_at st p x s h = subst SoundAt h.here (everywhere_at SoundAt tt st.table x.place s)
+sound_at st p x s h = subst SoundAt h.here (everywhere_at SoundAt refl st.table x.place s)
 
 at_lawful : (st : State) (ev : Brought) (p : Call → Bool) (x : Found) (r : Result Effect Ground) → Fresh st ev → Finds p st.table x → Keeps st.pool x.call ev r → Lawful st ev (at x.place r)
 at_lawful st ev p x (Err g) f h b = tt

@@ -1,24 +1,10 @@
 -- What a step does to one call: the moves of its two sides, and the rule of each event that finds it.
 use Rattle.std.specs.Prelude.{ℕ, ◌-◌, Bool, true, false, not, ◌&&◌, ◌||◌, List, [], ◌∷◌, ◌++◌, length, take, replicate, Some, None, Ok, Err, Option, Result, ◌==◌, if◌then◌else◌, nat_le}
-use Rattle.refusals.specs.declared.Ground.{Ground}
-use Rattle.messages.specs.declared.kind.MessageType.{MessageType}
-use Rattle.messages.specs.declared.record.CallReference.{CallReference}
-use Rattle.messages.specs.declared.record.Cause.{Cause}
-use Rattle.messages.specs.declared.record.Channel.{Channel}
-use Rattle.messages.specs.declared.record.Elements.{Elements}
-use Rattle.messages.specs.declared.record.Message.{Message}
+use Rattle.calls.specs.Records.{Ground, MessageType, CallReference, Cause, Channel, Elements, Message, Timer, SipMessage, Call, Digits, Origin, ExchangeSide, News, SipSide, Told}
+use Rattle.std.specs.Option.{option_map_or}
 use Rattle.messages.specs.Elements.{DigitsPart, bare}
 use Rattle.causes.specs.Names
 use Rattle.causes.specs.Mapping.{status_of, cause_of, counted_cause}
-use Rattle.calls.specs.declared.answers.Timer.{Timer}
-use Rattle.calls.specs.declared.outgoing.SipMessage.{SipMessage}
-use Rattle.calls.specs.declared.record.Call.{Call}
-use Rattle.calls.specs.declared.record.Digits.{Digits}
-use Rattle.calls.specs.declared.record.Origin.{Origin}
-use Rattle.calls.specs.declared.sides.ExchangeSide.{ExchangeSide}
-use Rattle.calls.specs.declared.sides.News.{News}
-use Rattle.calls.specs.declared.sides.SipSide.{SipSide}
-use Rattle.calls.specs.declared.sides.Told.{Told}
 use Rattle.calls.specs.Sides.{is_in, from_to, is_uncleared, is_unreleased, timer_of, is_running, sent_cause, is_repeated, is_invite_sent, is_cancel_sent, is_gone}
 
 -- ---------------------------------------------------------------- digits
@@ -42,12 +28,8 @@ abbrev pub is_nothing : List ℕ → Bool
 is_nothing xs = length xs == 0
 
 -- the digits of a message; one without a called number has none
-abbrev pub octets_of : Option DigitsPart → List ℕ
-octets_of None = []
-octets_of (Some part) = part.octets
-
 abbrev pub called_digits : Message DigitsPart → List ℕ
-called_digits m = octets_of m.elements.digits
+called_digits m = option_map_or (λ part. part.octets) m.elements.digits []
 
 -- by whether the sender says that the number is whole, and by how many digits there are: it is whole by what he says, or with
 -- as many digits as a full number has
@@ -160,8 +142,7 @@ abbrev pub unless_gone : Call → Option Call
 unless_gone k = if is_gone k then None else Some k
 
 abbrev pub moved_call : Call → Digits → ExchangeMove → SipMove → Call
-moved_call k ds a b =
-    record k { reference = a.reference; channel = a.channel; digits = ds; exchange = a.side; sip = b.side }
+moved_call k ds a b = record k { reference = a.reference; channel = a.channel; digits = ds; exchange = a.side; sip = b.side }
 
 -- both sides of a call move, and its digits become these
 abbrev pub redialled : Call → Digits → ExchangeMove → SipMove → Effect
@@ -175,8 +156,7 @@ moved k a b = redialled k k.digits a b
 -- ---------------------------------------------------------------- moves of the exchange side
 -- the state stays, and its timer runs on
 abbrev pub stays : Call → List (Message Digits) → ExchangeMove
-stays k ms =
-    record { side = k.exchange; reference = k.reference; channel = k.channel; seized = None; released = None; timer = None; sent = ms }
+stays k ms = record { side = k.exchange; reference = k.reference; channel = k.channel; seized = None; released = None; timer = None; sent = ms }
 
 -- a state is entered, and its timer starts
 abbrev pub enters : Call → ExchangeSide → List (Message Digits) → ExchangeMove
@@ -198,8 +178,7 @@ retries k c =
 
 -- RELEASE with the cause that went out before
 abbrev pub releases : Call → Bool → ExchangeMove
-releases k repeated =
-    enters k (ExchangeSide.ReleaseSent (sent_cause k.exchange) repeated) (tell_cause MessageType.Release k (sent_cause k.exchange) ∷ [])
+releases k repeated = enters k (ExchangeSide.ReleaseSent (sent_cause k.exchange) repeated) (tell_cause MessageType.Release k (sent_cause k.exchange) ∷ [])
 
 -- ---------------------------------------------------------------- moves of the SIP side
 -- the side is then in this state, and no timer starts
@@ -267,8 +246,7 @@ awaits k ds = redialled k ds (enters k ExchangeSide.Collecting []) (keeps k)
 
 -- the digits so far: none at all though the number is whole, a whole number, or more to come
 abbrev pub dials : ℕ → Bool → Call → Digits → Effect
-dials full complete k ds =
-    if is_empty_whole complete ds.count then spurns k ds else if is_whole full complete ds.count then proceeds k ds else awaits k ds
+dials full complete k ds = if is_empty_whole complete ds.count then spurns k ds else if is_whole full complete ds.count then proceeds k ds else awaits k ds
 
 -- the digits so far with those that came; where they are too many, the earlier ones stay
 abbrev pub collects : ℕ → Bool → Call → Option Digits → Effect
@@ -295,8 +273,7 @@ asks_for_another side cause = is_in ExchangeSide.SetupSent side && is_unavailabl
 
 -- the exchange has released
 abbrev pub completed : Option ℕ → Option Cause → Call → Effect
-completed pick cause k =
-    if asks_for_another k.exchange cause then tries_again pick k else moved k (ends k []) (clears_sip k (status_for cause))
+completed pick cause k = if asks_for_another k.exchange cause then tries_again pick k else moved k (ends k []) (clears_sip k (status_for cause))
 
 -- a message of each type; full is the length of a full number, pick an idle channel if there is one
 module _ (full : ℕ) (pick : Option ℕ) (m : Message DigitsPart) (k : Call) where

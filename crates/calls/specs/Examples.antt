@@ -1,15 +1,10 @@
 -- Collisions, step by step: the events, the answer of each, and the messages as they are taken.
 use Rattle.std.specs.Prelude.{◌≡◌, ℕ, true, false, ◌||◌, List, [], ◌∷◌, replicate, Some, None, Ok, Option, ◌==◌, if◌then◌else◌}
-use Rattle.messages.specs.declared.kind.MessageType.{MessageType}
-use Rattle.messages.specs.declared.record.Message.{Message}
+use Rattle.calls.specs.Records.{MessageType, Message, Answer, Timer, SipMessage, Digits}
 use Rattle.messages.specs.Laws.{setup417_octets, LayoutExamples}
 use Rattle.causes.specs.Examples.{CauseExamples}
 use Rattle.pools.specs.declared.channel.ChannelState.TheVariants.{Unknown, Idle, Seized}
 use Rattle.pools.specs.States.{States}
-use Rattle.calls.specs.declared.answers.Answer.{Answer}
-use Rattle.calls.specs.declared.answers.Timer.{Timer}
-use Rattle.calls.specs.declared.outgoing.SipMessage.{SipMessage}
-use Rattle.calls.specs.declared.record.Digits.{Digits}
 use Rattle.calls.specs.Effects.{recorded, exclusively}
 use Rattle.calls.specs.Rules.{Event, Exchange, Invite, Response, TakeExchange, TakeSip, State, Stepping}
 
@@ -21,8 +16,7 @@ pub record Leads (start : State) (events : List Event) (answers : List Answer) (
 
 -- a gateway without calls, over a pool, with eight places in either queue
 abbrev pub opened : States → State
-opened pool =
-    record { table = replicate 64 None; pool = pool; exchange = []; sip = []; exchange_places = 8; sip_places = 8; next = Some 1; full = 20 }
+opened pool = record { table = replicate 64 None; pool = pool; exchange = []; sip = []; exchange_places = 8; sip_places = 8; next = Some 1; full = 20 }
 
 -- pools of two channels and of one, all idle
 abbrev pub seven_and_nine : States

@@ -1,20 +1,13 @@
 -- The run law: what every history of a gateway has to do with the state that it led to.
 use Rattle.std.specs.Prelude.{◌≡◌, ℕ, ◌+◌, ◌<◌, ◌≤◌, Bool, true, false, not, ◌&&◌, ◌||◌, List, [], ◌∷◌, ◌++◌, Some, None, Ok, Err, Option, Result, ◌==◌, if◌then◌else◌, slice_index_or}
 use Rattle.std.specs.Option.{option_to_list}
-use Rattle.messages.specs.declared.record.Message.{Message}
-use Rattle.messages.specs.declared.record.Misread.{Misread}
+use Rattle.calls.specs.Records.{Message, Misread, Answer, Report, SipMessage, Call, Digits, ExchangeSide}
 use Rattle.messages.specs.Elements.{DigitsPart}
 use Rattle.messages.specs.Reading.{decoded}
 use Rattle.messages.specs.Types.{is_setup}
 use Rattle.causes.specs.Names
 use Rattle.pools.specs.declared.channel.ChannelState.TheVariants.{Idle, Seized}
 use Rattle.pools.specs.States.{States}
-use Rattle.calls.specs.declared.answers.Answer.{Answer}
-use Rattle.calls.specs.declared.answers.Report.{Report}
-use Rattle.calls.specs.declared.outgoing.SipMessage.{SipMessage}
-use Rattle.calls.specs.declared.record.Call.{Call}
-use Rattle.calls.specs.declared.record.Digits.{Digits}
-use Rattle.calls.specs.declared.sides.ExchangeSide.{ExchangeSide}
 use Rattle.calls.specs.Sides.{is_in, is_invite_sent, is_gone, one_if, equals_some, named, holds, owes, sum_of, holds_dialogue, connects_in, finals_in, bye_in}
 use Rattle.calls.specs.Rules.{Event, Exchange, Invite, Bye, Response, State, Stepping}
 use Rattle.calls.specs.Run.{Happening, Opening, Run, Tells}
@@ -211,8 +204,7 @@ pub record Longer (start : State) (past : List Happening) (entry : State) (event
   pub each : (later earlier : List Happening) → later ++ earlier ≡ more ++ past → Passed start later earlier exit
 
 abbrev pub RunsOn : State → List Event → List Answer → State → Type 0
-RunsOn entry events answers exit =
-    (start : State) (past : List Happening) → Run start past entry → Longer start past entry events answers exit
+RunsOn entry events answers exit = (start : State) (past : List Happening) → Run start past entry → Longer start past entry events answers exit
 
 -- steps one after the other make every history longer by their events
 abbrev pub RunsCompose : Type 0

@@ -1,3 +1,4 @@
+pub mod Records
 pub mod Refusing
 pub mod Sides
 pub mod Standing

@@ -1,23 +1,10 @@
 -- The rules of one step of the whole gateway, and the one place where effects are applied.
 use Rattle.std.specs.Prelude.{◌≡◌, ℕ, suc, ◌+◌, ◌-◌, ◌<◌, Bool, true, false, not, ◌&&◌, List, [], ◌∷◌, ◌++◌, length, drop, Some, None, Ok, Err, Option, Result, ◌==◌, ◌≢◌, if◌then◌else◌, nat_le, nat_lt, slice_index_or, slice_set}
-use Rattle.refusals.specs.declared.Ground.{Ground}
-use Rattle.messages.specs.declared.kind.MessageType.{MessageType}
-use Rattle.messages.specs.declared.record.CallReference.{CallReference}
-use Rattle.messages.specs.declared.record.Channel.{Channel}
-use Rattle.messages.specs.declared.record.Message.{Message}
-use Rattle.messages.specs.declared.record.Misread.{Misread}
+use Rattle.calls.specs.Records.{Ground, MessageType, CallReference, Channel, Message, Misread, Answer, Refused, Report, Timer, SipMessage, Call, Digits, Found}
 use Rattle.messages.specs.Elements.{DigitsPart, all_digits}
 use Rattle.messages.specs.Reading.{decoded}
 use Rattle.causes.specs.Names
 use Rattle.pools.specs.States.{States, idle, seized, after_any, after_release, AnyWasIdle}
-use Rattle.calls.specs.declared.answers.Answer.{Answer}
-use Rattle.calls.specs.declared.answers.Refused.{Refused}
-use Rattle.calls.specs.declared.answers.Report.{Report}
-use Rattle.calls.specs.declared.answers.Timer.{Timer}
-use Rattle.calls.specs.declared.outgoing.SipMessage.{SipMessage}
-use Rattle.calls.specs.declared.record.Call.{Call}
-use Rattle.calls.specs.declared.record.Digits.{Digits}
-use Rattle.calls.specs.declared.record.Found.{Found}
 use Rattle.calls.specs.Refusing.{placeless, placed}
 use Rattle.calls.specs.Sides.{is_over, is_no_sip, awaits_response, is_unanswered, holds_dialogue, equals_some, number_of}
 use Rattle.calls.specs.Effects.{Effect, is_nothing, misdialled, cause_for, rejection, on_type, on_expiry, on_cancel_expiry, provisional, fails, accepts, ack_and_bye, leaves, begins, invited}
@@ -174,8 +161,7 @@ on_message st ch m (Some f) = at f.place (on_type st.full ch.pick m f.call m.kin
 -- ---------------------------------------------------------------- SIP events
 -- the status that answers an INVITE whose digits make no call: none at all, too many, or no digits
 abbrev pub dialling_status : List ℕ → Option ℕ
-dialling_status xs =
-    if is_nothing xs then Some Names.address_incomplete else if nat_le (length xs) 20 && all_digits xs then None else Some Names.not_found
+dialling_status xs = if is_nothing xs then Some Names.address_incomplete else if nat_le (length xs) 20 && all_digits xs then None else Some Names.not_found
 
 -- a final response that makes no call
 abbrev pub replies : ℕ → ℕ → Outcome

@@ -1,9 +1,6 @@
 -- Runs of a gateway: what happened, newest first, and the state that it led to.
 use Rattle.std.specs.Prelude.{◌≡◌, List, [], ◌∷◌, map, reverse, replicate, None}
-use Rattle.messages.specs.declared.record.Message.{Message}
-use Rattle.calls.specs.declared.answers.Answer.{Answer}
-use Rattle.calls.specs.declared.outgoing.SipMessage.{SipMessage}
-use Rattle.calls.specs.declared.record.Digits.{Digits}
+use Rattle.calls.specs.Records.{Message, Answer, SipMessage, Digits}
 use Rattle.calls.specs.Rules.{Event, State, Choice, Fair, Outcome, Reply, Change, outcome, applied, answer_of}
 
 -- an event, its answer, and what was put into the two queues

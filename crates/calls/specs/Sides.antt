@@ -1,16 +1,8 @@
 -- Where the two sides of a call stand, which timer runs, what it holds and owes; and what a message is to the counts.
 use Rattle.std.specs.Prelude.{ℕ, ◌+◌, Bool, false, ◌&&◌, ◌||◌, List, [], ◌∷◌, Some, None, Option, ◌==◌, if◌then◌else◌, nat_le}
-use Rattle.messages.specs.declared.record.Cause.{Cause}
-use Rattle.messages.specs.declared.record.Message.{Message}
+use Rattle.calls.specs.Records.{Cause, Message, Timer, SipMessage, Call, Digits, Origin, ExchangeSide, SipSide}
 use Rattle.messages.specs.Types.{code_of}
 use Rattle.causes.specs.Names
-use Rattle.calls.specs.declared.answers.Timer.{Timer}
-use Rattle.calls.specs.declared.outgoing.SipMessage.{SipMessage}
-use Rattle.calls.specs.declared.record.Call.{Call}
-use Rattle.calls.specs.declared.record.Digits.{Digits}
-use Rattle.calls.specs.declared.record.Origin.{Origin}
-use Rattle.calls.specs.declared.sides.ExchangeSide.{ExchangeSide}
-use Rattle.calls.specs.declared.sides.SipSide.{SipSide}
 
 -- ---------------------------------------------------------------- the exchange side
 -- the states in an order in which a span of them can be said by its two ends: those of a call from the exchange, those of a

@@ -1,7 +1,7 @@
 // What the program prints.
 use crate::list::List;
-use causes::{REMOTE_PRIVATE_NETWORK, USER, cause_of, status_of};
 use cause_expectations::{cause_agrees, status_agrees};
+use causes::{REMOTE_PRIVATE_NETWORK, USER, cause_of, status_of};
 use messages::Cause;
 use std::{fmt, io};
 

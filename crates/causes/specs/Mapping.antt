@@ -42,8 +42,7 @@ Between rows other n = (low high : ℕ) → all_within low high rows other ≡ t
 
 -- the status for a cause: a call rejected by the user himself is declined, any cause in no row is a server error
 abbrev pub status_of : ℕ → ℕ → ℕ
-status_of cause location =
-    if cause == call_rejected && location == user then decline else second_of cause_rows cause server_internal_error
+status_of cause location = if cause == call_rejected && location == user then decline else second_of cause_rows cause server_internal_error
 
 -- where a cause comes from that stands for a status: the user for 600 to 699, else the private network that serves the remote user
 abbrev pub location_of : ℕ → ℕ

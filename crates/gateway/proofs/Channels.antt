@@ -2,13 +2,14 @@
 use Rattle.std.proofs.Common.{◌≡◌, ℕ, ◌+◌, ◌<◌, true, cond, eqb, List, length, get_or, is_some, Some, None, Option, refl, ap, arith}
 use Rattle.std.proofs.lemmas.Bool.{eq-eqb}
 use Rattle.std.proofs.lemmas.Bool.Decides.{nat_tests}
-use Rattle.calls.specs.declared.record.Call.{Call}
+use Rattle.gateway.specs.Records.{Call}
 use Rattle.calls.specs.Sides.{named, holds, on_call}
+use Rattle.pools.specs.States.{States, idle}
+use Rattle.pools.specs.declared.channel.ChannelState.TheVariants.{Unknown}
 use Rattle.calls.specs.Standing.{SoundAt}
 use Rattle.calls.specs.Effects.{Effect}
 use Rattle.calls.specs.Rules.{State, Outcome, Refuse, Reply, Change, TookExchange, TookSip}
 use Rattle.calls.specs.Laws.{Brought}
-use Rattle.calls.proofs.Sounds.{sound_tested}
 use Rattle.calls.proofs.Steps.{Lawful}
 use Rattle.call_table.specs.Tokens.{token_channel, token_of}
 use Rattle.call_table.specs.Records.{holding, MayHold}
@@ -35,16 +36,22 @@ pub ready_kept : (places : List (Option Call)) (i : ℕ) (e : Effect) → length
 ready_kept places i e len inside h none sound =
     let old = get_or places i None in
     let w = kept (holding old) (holding e.after) e.released (λ c. omega (arith, h c, held_as c old, held_as c e.after, ap (named c) none)) in
-    record { inside = omega (arith, len, inside); enters = w.0; leaves = w.1; sound = sound_tested e.after sound }
+    record { inside = omega (arith, len, inside); enters = w.0; leaves = w.1; sound = sound }
 
--- an outcome by the rules that seizes nothing
-abbrev pub Unseizing : Outcome → Type 0
-Unseizing (Change i e) = e.seized ≡ None
-Unseizing _ = Unit {0}
+-- a pool with no channel at all, where none is idle
+abbrev pub all_unknown : States
+all_unknown c = Unknown
 
-pub possible : (st : State) → length st.table ≡ 64 → (ev : Brought) (o : Outcome) → Lawful st ev o → Unseizing o → Possible st.table o
-possible st len ev (Change i e) l u = (ready_kept st.table i e len l.1 l.2.channels u l.2.sound, u)
-possible st len ev (Refuse r) l u = tt
-possible st len ev (Reply ms ss) l u = tt
-possible st len ev TookExchange l u = tt
-possible st len ev TookSip l u = tt
+pub unseized : (s : Option ℕ) → ((c : ℕ) → named c s ≡ 1 → ⊥) → s ≡ None
+unseized None h = refl
+unseized (Some x) h = absurd (h x (let e = same x in grind (arith, nat_tests)))
+
+-- where no channel is idle, what the rules make of an event seizes none
+pub possible : (st : State) → length st.table ≡ 64 → ((c : ℕ) → idle (st.pool c) ≡ false) → (ev : Brought) (o : Outcome) → Lawful st ev o → Possible st.table o
+possible st len busy ev (Change i e) l =
+    let none = unseized e.seized (λ c h. (let w = l.2.idle c h in let b = busy c in grind (arith, nat_tests))) in
+    (ready_kept st.table i e len l.1 l.2.channels none l.2.sound, none)
+possible st len busy ev (Refuse r) l = tt
+possible st len busy ev (Reply ms ss) l = tt
+possible st len busy ev TookExchange l = tt
+possible st len busy ev TookSip l = tt

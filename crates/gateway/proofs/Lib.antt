@@ -1,4 +1,5 @@
 pub mod Channels
-pub mod Unseizing
+pub mod Closed
 pub mod Ways
 pub mod Seizures
+pub mod Cited

@@ -2,13 +2,9 @@
 use Rattle.std.proofs.Common.{◌≡◌, ℕ, ◌<◌, Bool, true, false, cond, List, length, get_or, Some, None, Ok, Err, Option, Result, sym, refl, ap, ◌∙◌, subst, arith}
 use Rattle.std.proofs.lemmas.Bool.{cond-false, cond_both, eqb-true}
 use Rattle.std.proofs.lemmas.Bool.Decides.{nat_tests}
-use Rattle.refusals.specs.declared.Ground.{Ground}
-use Rattle.messages.specs.declared.record.Channel.{Channel}
-use Rattle.messages.specs.declared.record.Message.{Message}
+use Rattle.gateway.specs.Records.{Ground, Channel, Message, Call, ExchangeSide, Token}
 use Rattle.messages.specs.Elements.{DigitsPart}
 use Rattle.pools.specs.States.{States, idle, AnyWasIdle}
-use Rattle.calls.specs.declared.record.Call.{Call}
-use Rattle.calls.specs.declared.sides.ExchangeSide.{ExchangeSide}
 use Rattle.calls.specs.Sides.{stage, is_in, is_over}
 use Rattle.calls.specs.Standing.{is_sound, sides_agree, SoundAt}
 use Rattle.calls.specs.Effects.{Effect, misdialled, tries_again, on_type, begins, is_whole, called_digits}
@@ -18,25 +14,22 @@ use Rattle.calls.proofs.Choices.{Bounded, fair_pick}
 use Rattle.calls.proofs.Balance.{Balanced}
 use Rattle.calls.proofs.Locals.{Keeps, tries_again_lem, on_type_lem}
 use Rattle.calls.proofs.Places.{everywhere_at}
-use Rattle.calls.proofs.Sounds.{sound_everywhere, sound_tested}
-use Rattle.call_table.specs.declared.token.Token.{Token}
+use Rattle.calls.proofs.Sounds.{sound_everywhere}
 use Rattle.call_table.specs.Tokens.{token_channel, token_of}
 use Rattle.call_table.specs.Records.{holding}
 use Rattle.call_table.specs.Wishes.{WishGets}
-use Rattle.decisions.specs.Outcomes.{wants_another}
 use Rattle.gateway.specs.Stands.{Ready, Possible, Granted}
-use Rattle.gateway.proofs.Channels.{Unseizing, ready_kept}
-use Rattle.gateway.proofs.Unseizing.{type_still, unpicked}
+use Rattle.gateway.proofs.Channels.{all_unknown, unseized, ready_kept}
 
 -- ---------------------------------------------------------------- a call that stands at its place
 module _ (st : State) (len : length st.table ≡ 64) (sound : is_sound st.table ≡ true) (i : ℕ) (k : Call) (inside : i < 64) (here : get_or st.table i None ≡ Some k) where
   sound_call : sides_agree k.exchange k.sip ≡ true
-  sound_call = subst SoundAt here (everywhere_at SoundAt tt st.table i (sound_everywhere st.table sound))
+  sound_call = subst SoundAt here (everywhere_at SoundAt refl st.table i (sound_everywhere st.table sound))
 
   -- a balance at the call is one at its place
-  placed : (e : Effect) → Balanced st.pool (Some k) NoneOfThese e → e.seized ≡ None → Ready st.table i e.after e.released None
-  placed e b none =
-      let z = subst (λ (o : Option Call). Balanced st.pool o NoneOfThese e) (sym here) b in
+  placed : (pool : States) (e : Effect) → Balanced pool (Some k) NoneOfThese e → e.seized ≡ None → Ready st.table i e.after e.released None
+  placed pool e b none =
+      let z = subst (λ (o : Option Call). Balanced pool o NoneOfThese e) (sym here) b in
       ready_kept st.table i e len (omega (arith, len, inside)) z.channels none z.sound
 
   again_some : (t : Token) → SoundAt (tries_again (Some t.channel) k).after → is_over k.exchange ≡ false → Ready st.table i (tries_again (Some t.channel) k).after (tries_again (Some t.channel) k).released (Some t)
@@ -45,7 +38,7 @@ module _ (st : State) (len : length st.table ≡ 64) (sound : is_sound st.table 
         inside = inside;
         enters = refl;
         leaves = ap (λ (o : Option Call). token_channel (token_of (holding o))) here ∙ ap (λ (x : Option ℕ). token_channel (token_of x)) (cond-false (is_over k.exchange) None (Some k.channel) live);
-        sound = sound_tested (tries_again (Some t.channel) k).after s;
+        sound = s;
       }
 
   -- SETUP again on another channel, or both sides end
@@ -53,23 +46,21 @@ module _ (st : State) (len : length st.table ≡ 64) (sound : is_sound st.table 
   ready_again waits None h =
       let five : stage k.exchange ≡ 5 = eqb-true _ _ waits in
       let live : is_over k.exchange ≡ false = grind (arith, nat_tests) in
-      placed (tries_again None k) (tries_again_lem st.pool NoneOfThese (λ t. refl) (λ d. refl) k sound_call live None h (omega arith)) refl
+      placed st.pool (tries_again None k) (tries_again_lem st.pool NoneOfThese (λ t. refl) (λ d. refl) k sound_call live None h (omega arith)) refl
   ready_again waits (Some t) h =
       let five : stage k.exchange ≡ 5 = eqb-true _ _ waits in
       let live : is_over k.exchange ≡ false = grind (arith, nat_tests) in
       again_some t (tries_again_lem st.pool NoneOfThese (λ t. refl) (λ d. refl) k sound_call live (Some t.channel) h (omega arith)).sound live
 
-  ruled : (r : Result Effect Ground) → Keeps st.pool k NoneOfThese r → Unseizing (at i r) → Possible st.table (at i r)
-  ruled (Err ground) b u = tt
-  ruled (Ok e) b u = (placed e b u, u)
+  ruled : (r : Result Effect Ground) → Keeps all_unknown k NoneOfThese r → Possible st.table (at i r)
+  ruled (Err ground) b = tt
+  ruled (Ok e) b =
+      let none = unseized e.seized (λ c h. (let w = b.idle c h in grind (arith, nat_tests))) in
+      (placed all_unknown e b none, none)
 
   -- a message that asks for no other channel
-  pub possible_at : Bounded st.pool → is_over k.exchange ≡ false → (full : ℕ) (m : Message DigitsPart) → wants_another m k ≡ false → Possible st.table (at i (on_type full None m k m.kind))
-  possible_at b live full m e =
-      let p = fair_pick st.pool b in
-      ruled (on_type full None m k m.kind)
-      (subst (Keeps st.pool k NoneOfThese) (unpicked full p.0 m k e) (on_type_lem st.pool NoneOfThese (λ t. refl) (λ d. refl) k sound_call live full p.0 p.1 m m.kind))
-      (type_still full i m k m.kind)
+  pub possible_at : is_over k.exchange ≡ false → (full : ℕ) (m : Message DigitsPart) → Possible st.table (at i (on_type full None m k m.kind))
+  possible_at live full m = ruled (on_type full None m k m.kind) (on_type_lem all_unknown NoneOfThese (λ t. refl) (λ d. refl) k sound_call live full None (λ c. refl) m m.kind)
 
 -- what a retry seizes is what was picked
 pub again_seizes : (pick : Option ℕ) (k : Call) → (tries_again pick k).seized ≡ pick

@@ -1,43 +1,37 @@
 -- How a step of the gateway's code comes to what the rules say.
-use Rattle.std.proofs.Common.{◌≡◌, ℕ, true, false, List, ◌++◌, length, Some, Err, Option, Result, sym, refl, ap, ◌∙◌, subst, MatchOption}
+use Rattle.std.proofs.Common.{◌≡◌, ℕ, true, false, List, ◌++◌, length, Some, None, Err, Option, Result, sym, refl, ap, ◌∙◌, subst, MatchOption}
 use Rattle.std.specs.Result.{IsErrAnd}
 use Rattle.std.proofs.lemmas.Result.{err_from_is_err_and}
 use Rattle.std.proofs.lemmas.Bool.{cond-true, cond-false}
-use Rattle.refusals.specs.declared.Ground.{Ground}
-use Rattle.messages.specs.declared.record.Message.{Message}
+use Rattle.gateway.specs.Records.{Ground, Message, CallReference, Answer, Refused, Report, Call, Found, SipMessage, Digits}
 use Rattle.pools.specs.States.{States}
-use Rattle.calls.specs.declared.answers.Answer.{Answer}
-use Rattle.calls.specs.declared.answers.Refused.{Refused}
-use Rattle.calls.specs.declared.answers.Report.{Report}
 use Rattle.calls.specs.Refusing.{placeless}
-use Rattle.calls.specs.declared.record.Call.{Call}
-use Rattle.calls.specs.declared.record.Found.{Found}
-use Rattle.calls.specs.declared.outgoing.SipMessage.{SipMessage}
-use Rattle.calls.specs.declared.record.Digits.{Digits}
 use Rattle.calls.specs.Standing.{is_sound}
-use Rattle.calls.specs.Rules.{State, Choice, Event, Outcome, Reply, refuse, outcome, roomed, is_roomy, applied, Did, seek, by_reference}
+use Rattle.calls.specs.Rules.{State, Choice, Fair, Event, Outcome, Reply, refuse, outcome, roomed, is_roomy, applied, Did, seek, by_reference}
 use Rattle.calls.specs.Laws.{brought_by}
-use Rattle.calls.proofs.Choices.{Bounded, fair_choice}
+use Rattle.calls.proofs.Choices.{Bounded, fair_place}
 use Rattle.calls.proofs.Dids.{plainly}
 use Rattle.calls.proofs.Sounds.{sound_everywhere}
 use Rattle.calls.proofs.Places.{Finds, Misses, seek_tells}
 use Rattle.calls.proofs.Steps.{Lawful, lawful, live_by}
-use Rattle.messages.specs.declared.record.CallReference.{CallReference}
 use Rattle.calls.specs.Sides.{is_over}
 use Rattle.gateway.specs.Stands.{Possible}
-use Rattle.gateway.proofs.Channels.{Unseizing, possible}
+use Rattle.gateway.proofs.Channels.{all_unknown, possible}
 
 -- a refusal that is passed on is the answer
 pub passed_on : (r : Result Report Refused) (x : Refused) → IsErrAnd r (λ e. e ≡ x) → Answer.Step r ≡ Answer.Step (Err x)
 passed_on r x h = let w = err_from_is_err_and r h in ap Answer.Step w.1 ∙ ap (λ (y : Refused). Answer.Step (Err y)) w.2
 
 module _ (st : State) where
-  -- what was decided for an event is what the rules make of it, with room
-  pub possible_step : length st.table ≡ 64 → is_sound st.table ≡ true → Bounded st.pool → (ev : Event) (o o' : Outcome) → o' ≡ o → ((ch : Choice) → outcome st ch ev ≡ roomed st o) → Unseizing o → is_roomy st ≡ true → Possible st.table o'
-  possible_step len s b ev o o' p e u r =
-      let w = fair_choice st b in
-      let l = subst (Lawful st (brought_by ev)) (e w.0 ∙ cond-true (is_roomy st) o (refuse Ground.QueueFull) r) (lawful st (sound_everywhere st.table s) w.0 w.1 ev) in
-      subst (Possible st.table) (sym p) (possible st len (brought_by ev) o l u)
+  -- what was decided for an event is what the rules make of it whatever the pool, so also where no channel is idle
+  pub possible_step : length st.table ≡ 64 → is_sound st.table ≡ true → (ev : Event) (o o' : Outcome) → o' ≡ o → ((ch : Choice) → outcome (record st { pool = all_unknown }) ch ev ≡ roomed (record st { pool = all_unknown }) o) → is_roomy st ≡ true → Possible st.table o'
+  possible_step len s ev o o' p e r =
+      let q : State = record st { pool = all_unknown } in
+      let place = fair_place st.table in
+      let ch : Choice = record { pick = None; place = place.0 } in
+      let fair : Fair q ch = record { pick = λ c. refl; place = place.1 } in
+      let l = subst (Lawful q (brought_by ev)) (e ch ∙ cond-true (is_roomy st) o (refuse Ground.QueueFull) r) (lawful q (sound_everywhere st.table s) ch fair ev) in
+      subst (Possible st.table) (sym p) (possible q len (λ c. refl) (brought_by ev) o l)
 
   -- without room, whatever the rule
   pub full_refused : (rule : Choice → Outcome) → Bounded st.pool → is_roomy st ≡ false → {a : Answer} → a ≡ Answer.Step (Err (placeless Ground.QueueFull)) → Did st (λ ch. roomed st (rule ch)) a st

@@ -1,17 +1,14 @@
 -- What a gateway and its two queues stand for among the states of the rules.
 use Rattle.std.specs.Prelude.{◌≡◌, ℕ, ◌<◌, ◌≤◌, Bool, true, List, [], Some, None, Option, slice_index_or}
-use Rattle.messages.specs.declared.record.Channel.{Channel}
-use Rattle.messages.specs.declared.record.Message.{Message}
+use Rattle.gateway.specs.Records.{Channel, Message, Call, Token}
 use Rattle.messages.specs.Elements.{DigitsPart}
 use Rattle.pools.specs.declared.pool.Pool.{Ghosts}
 use Rattle.pools.specs.States.{States, after_any, AnyWasIdle}
 use Rattle.queues.specs.Waiting.{waiting, room}
-use Rattle.calls.specs.declared.record.Call.{Call}
 use Rattle.calls.specs.Standing.{is_sound_at}
 use Rattle.calls.specs.Rules.{State, Choice, Fair, Outcome, Change, has_room, granted, rejects, on_setup}
 use Rattle.calls.specs.Run.{Opening, Run}
 use Rattle.effects.specs.Moves.{effect_of}
-use Rattle.call_table.specs.declared.token.Token.{Token}
 use Rattle.call_table.specs.Tokens.{token_channel}
 use Rattle.call_table.specs.Records.{Enters, left}
 use Rattle.gateway.specs.declared.gateway.Gateway.{Gateway}

@@ -25,8 +25,7 @@ ended (Some high) = None
 
 abbrev pub octets_from : Option ℕ → List ℕ → Option (List ℕ)
 octets_from pending [] = ended pending
-octets_from pending (x ∷ xs) =
-    if is_blank x then octets_from pending xs else paired pending (digit_of x) (λ more. octets_from more xs)
+octets_from pending (x ∷ xs) = if is_blank x then octets_from pending xs else paired pending (digit_of x) (λ more. octets_from more xs)
 
 -- the octets that a text stands for, if it is hexadecimal
 abbrev pub octets_in : List ℕ → Option (List ℕ)

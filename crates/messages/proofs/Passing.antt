@@ -3,17 +3,14 @@ use Rattle.std.proofs.Common.{◌≡◌, ℕ, zero, suc, ◌+◌, ◌%◌, ◌�
 use Rattle.std.specs.Option.{option_map}
 use Rattle.std.proofs.lemmas.List.{take_at, drop_at}
 use Rattle.std.proofs.lemmas.Bool.{le-ltb, le-leb, leb-true, and_parts}
-use Rattle.messages.specs.declared.record.Cause.{Cause}
-use Rattle.messages.specs.declared.record.Channel.{Channel}
-use Rattle.messages.specs.declared.record.Elements.{Elements}
+use Rattle.messages.specs.Records.{Cause, Channel, Elements}
 use Rattle.messages.specs.Elements.{DigitsPart, all_digits, bare, with_digits, noted}
 use Rattle.messages.specs.Reading.{elements_from}
 use Rattle.messages.specs.Writing.{complete_octets, cause_octets, channel_octets, progress_octets, digits_octets, element, cause_fits, channel_fits, progress_fits, digits_fit}
 
 -- what has been seen before the called number
 abbrev pub seen : Bool → Option Cause → Option Channel → Option ℕ → Elements DigitsPart
-seen complete cause channel progress =
-    record { complete = complete; cause = cause; channel = channel; progress = progress; digits = None }
+seen complete cause channel progress = record { complete = complete; cause = cause; channel = channel; progress = progress; digits = None }
 
 -- nothing is written for what is absent
 stays : (p : ℕ) (rest : List ℕ) (s : Elements DigitsPart) → elements_from 0 p rest s ≡ elements_from 0 (p + 0) rest s

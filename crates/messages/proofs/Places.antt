@@ -2,8 +2,7 @@
 use Rattle.std.proofs.Common.{◌≡◌, ℕ, zero, suc, ◌+◌, Bool, true, false, cond, ◌&&◌, eqb, ltb, leb, List, [], ◌∷◌, length, get_or, take, drop, Some, None, Ok, Err, Option, Result, sym, refl, ap, ◌∙◌, subst, arith}
 use Rattle.std.proofs.lemmas.List.{drop-drop}
 use Rattle.refusals.specs.declared.Ground.TheVariants.{BadElement, ElementPastEnd}
-use Rattle.messages.specs.declared.record.Elements.{Elements}
-use Rattle.messages.specs.declared.record.Misread.{Misread}
+use Rattle.messages.specs.Records.{Elements, Misread}
 use Rattle.messages.specs.Elements.{DigitsPart, cause_of, channel_of, progress_of, digits_of, with_cause, with_channel, with_progress, with_digits, with_complete, absent, kept, noted, bare}
 use Rattle.messages.specs.Reading.{and_then, elements_from}
 

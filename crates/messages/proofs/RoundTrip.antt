@@ -2,11 +2,8 @@
 use Rattle.std.proofs.Common.{◌≡◌, ℕ, suc, ◌+◌, ◌*◌, ◌/◌, ◌%◌, ◌≤◌, Bool, true, false, cond, not, ◌&&◌, eqb, ltb, leb, List, ◌++◌, length, Some, None, Ok, Option, sym, refl, ap, ◌∙◌, arith, length-append}
 use Rattle.std.specs.Option.{option_map}
 use Rattle.std.proofs.lemmas.Bool.{le-ltb, le-leb, lt-leb, leb-true, and_parts, ne_eqb}
-use Rattle.messages.specs.declared.kind.MessageType.{MessageType}
+use Rattle.messages.specs.Records.{MessageType, CallReference, Elements, Message}
 use Rattle.messages.specs.declared.kind.MessageType.TheVariants.{Alerting, CallProceeding, Progress, Setup, Connect, SetupAcknowledge, ConnectAcknowledge, Disconnect, Release, ReleaseComplete, Information}
-use Rattle.messages.specs.declared.record.CallReference.{CallReference}
-use Rattle.messages.specs.declared.record.Elements.{Elements}
-use Rattle.messages.specs.declared.record.Message.{Message}
 use Rattle.messages.specs.Types.{code_of, type_of, is_setup}
 use Rattle.messages.specs.Elements.{bare, with_digits}
 use Rattle.messages.specs.Reading.{headed, elements_from, bad_reference, lacking, whole, and_then}

@@ -3,10 +3,7 @@ use Rattle.std.specs.Prelude.{ℕ, ◌+◌, ◌%◌, Bool, true, false, if◌the
 use Rattle.std.specs.List.{list_all}
 use Rattle.refusals.specs.declared.Ground.{Ground}
 use Rattle.refusals.specs.declared.Ground.TheVariants.{BadElement}
-use Rattle.messages.specs.declared.record.Cause.{Cause}
-use Rattle.messages.specs.declared.record.Channel.{Channel}
-use Rattle.messages.specs.declared.record.Elements.{Elements}
-use Rattle.messages.specs.declared.record.Misread.{Misread}
+use Rattle.messages.specs.Records.{Cause, Channel, Elements, Misread}
 
 -- the called number's digits as values: where they begin in the message, and what they are
 pub record DigitsPart : Type 0 where

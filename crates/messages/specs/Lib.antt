@@ -1,3 +1,4 @@
+pub mod Records
 pub mod Types
 pub mod Elements
 pub mod Reading

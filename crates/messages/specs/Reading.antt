@@ -2,11 +2,7 @@
 use Rattle.std.specs.Prelude.{ℕ, zero, suc, ◌+◌, ◌*◌, ◌%◌, Bool, if◌then◌else◌, not, ◌&&◌, ◌||◌, List, [], ◌∷◌, length, take, drop, Some, None, Ok, Err, Option, Result, ◌==◌, nat_le, nat_lt, slice_index}
 use Rattle.refusals.specs.declared.Ground.{Ground}
 use Rattle.refusals.specs.declared.Ground.TheVariants.{TooFewOctets, WrongDiscriminator, UnknownType, ElementPastEnd, IncompleteSetup, BadReference}
-use Rattle.messages.specs.declared.kind.MessageType.{MessageType}
-use Rattle.messages.specs.declared.record.CallReference.{CallReference}
-use Rattle.messages.specs.declared.record.Elements.{Elements}
-use Rattle.messages.specs.declared.record.Message.{Message}
-use Rattle.messages.specs.declared.record.Misread.{Misread}
+use Rattle.messages.specs.Records.{MessageType, CallReference, Elements, Message, Misread}
 use Rattle.messages.specs.Types.{type_of, is_setup}
 use Rattle.messages.specs.Elements.{DigitsPart, absent, bare, misread, noted}
 

@@ -1,7 +1,6 @@
 -- The octet of each message type.
-use Rattle.std.specs.Prelude.{◌≡◌, ℕ, Bool, true, false, if◌then◌else◌, Some, None, Ok, Err, Option, Result, ◌==◌}
-use Rattle.messages.specs.declared.kind.MessageType.{MessageType}
-use Rattle.messages.specs.declared.kind.UnknownCode.{UnknownCode}
+use Rattle.std.specs.Prelude.{◌≡◌, ℕ, Bool, true, false, List, [], ◌∷◌, find, Some, None, Ok, Err, Option, Result, ◌==◌}
+use Rattle.messages.specs.Records.{MessageType, UnknownCode}
 use Rattle.messages.specs.declared.kind.MessageType.TheVariants.{Alerting, CallProceeding, Progress, Setup, Connect, SetupAcknowledge, ConnectAcknowledge, Disconnect, Release, ReleaseComplete, Information}
 
 abbrev pub code_of : MessageType → ℕ
@@ -17,20 +16,13 @@ code_of Release = 0x4d
 code_of ReleaseComplete = 0x5a
 code_of Information = 0x7b
 
+abbrev pub all_types : List MessageType
+all_types =
+    Alerting ∷ CallProceeding ∷ Progress ∷ Setup ∷ Connect ∷ SetupAcknowledge ∷ ConnectAcknowledge ∷ Disconnect ∷ Release ∷ ReleaseComplete ∷ Information ∷ []
+
 -- the type that an octet stands for, if any
 abbrev pub type_of : ℕ → Option MessageType
-type_of code =
-    if code == 0x01 then Some Alerting
-    else if code == 0x02 then Some CallProceeding
-    else if code == 0x03 then Some Progress
-    else if code == 0x05 then Some Setup
-    else if code == 0x07 then Some Connect
-    else if code == 0x0d then Some SetupAcknowledge
-    else if code == 0x0f then Some ConnectAcknowledge
-    else if code == 0x45 then Some Disconnect
-    else if code == 0x4d then Some Release
-    else if code == 0x5a then Some ReleaseComplete
-    else if code == 0x7b then Some Information else None
+type_of code = find (λ kind. code == code_of kind) all_types
 
 -- the octet's type, or the octet back where it stands for none
 abbrev pub type_or_code : ℕ → Option MessageType → Result MessageType UnknownCode

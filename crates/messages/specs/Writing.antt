@@ -2,12 +2,7 @@
 use Rattle.std.specs.Prelude.{ℕ, ◌+◌, ◌/◌, ◌%◌, Bool, true, if◌then◌else◌, not, ◌&&◌, List, [], ◌∷◌, ◌++◌, length, drop, Some, None, Ok, Err, Option, Result, nat_le, nat_lt}
 use Rattle.refusals.specs.declared.Ground.{Ground}
 use Rattle.refusals.specs.declared.Ground.TheVariants.{FieldOutOfRange, IncompleteSetup, BufferTooShort}
-use Rattle.messages.specs.declared.kind.MessageType.{MessageType}
-use Rattle.messages.specs.declared.record.CallReference.{CallReference}
-use Rattle.messages.specs.declared.record.Cause.{Cause}
-use Rattle.messages.specs.declared.record.Channel.{Channel}
-use Rattle.messages.specs.declared.record.Elements.{Elements}
-use Rattle.messages.specs.declared.record.Message.{Message}
+use Rattle.messages.specs.Records.{MessageType, CallReference, Cause, Channel, Elements, Message}
 use Rattle.messages.specs.Types.{code_of, is_setup}
 use Rattle.messages.specs.Elements.{all_digits}
 use Rattle.messages.specs.Reading.{lacking}
@@ -17,8 +12,7 @@ abbrev pub element : ℕ → List ℕ → List ℕ
 element id contents = id ∷ length contents ∷ contents
 
 abbrev pub head_octets : CallReference → MessageType → List ℕ
-head_octets reference kind =
-    8 ∷ 2 ∷ ((if reference.flag then 128 else 0) + reference.number / 256) ∷ (reference.number % 256) ∷ code_of kind ∷ []
+head_octets reference kind = 8 ∷ 2 ∷ ((if reference.flag then 128 else 0) + reference.number / 256) ∷ (reference.number % 256) ∷ code_of kind ∷ []
 
 -- Sending complete
 abbrev pub complete_octets : Bool → List ℕ
@@ -55,8 +49,7 @@ abbrev pub encoded : Message (List ℕ) → List ℕ
 encoded m = head_octets m.reference m.kind ++ element_octets m.kind m.elements
 
 abbrev pub reference_fits : CallReference → MessageType → Bool
-reference_fits reference kind =
-    (nat_le 1 reference.number && nat_le reference.number 32767) && not (is_setup kind && reference.flag)
+reference_fits reference kind = (nat_le 1 reference.number && nat_le reference.number 32767) && not (is_setup kind && reference.flag)
 
 abbrev pub cause_fits : Option Cause → Bool
 cause_fits None = true

@@ -2,8 +2,7 @@
 use Rattle.std.specs.Prelude.{ℕ, List}
 use Rattle.std.specs.Borrow.{Bor}
 use Rattle.std.specs.Option.{option_map}
-use Rattle.messages.specs.declared.record.Message.{Message}
-use Rattle.messages.specs.declared.record.Part.{Part}
+use Rattle.messages.specs.Records.{Message, Part}
 
 -- the digits lose their place; all else stays
 abbrev pub without_place : Message Part → Message (Bor (List ℕ))

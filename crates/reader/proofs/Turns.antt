@@ -18,8 +18,7 @@ alike (Err e) f g h = refl
 -- what an element with these contents, and these octets behind it, comes to
 abbrev pub goes_on : ℕ → ℕ → List ℕ → Option (List ℕ × List ℕ) → Elements DigitsPart → Result (Elements DigitsPart) Misread
 goes_on id p octets None s = Err (misread ElementPastEnd p)
-goes_on id p octets (Some (cs, rest)) s =
-    and_then (noted id p cs s) (λ more. elements_from 0 (p + (length octets - length rest)) rest more)
+goes_on id p octets (Some (cs, rest)) s = and_then (noted id p cs s) (λ more. elements_from 0 (p + (length octets - length rest)) rest more)
 
 -- an octet from 80 up is an element alone
 turn_alone : (id p : ℕ) (xs : List ℕ) (s : Elements DigitsPart) → leb 128 id ≡ true → elements_from 0 p (id ∷ xs) s ≡ goes_on id p (id ∷ xs) (parts_of id xs) s

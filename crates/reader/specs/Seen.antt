@@ -20,8 +20,7 @@ abbrev pub seen_digits : Option Part → Option DigitsPart
 seen_digits o = option_map seen_part o
 
 abbrev pub seen_elements : Elements Part → Elements DigitsPart
-seen_elements e =
-    record { complete = e.complete; cause = e.cause; channel = e.channel; progress = e.progress; digits = seen_digits e.digits }
+seen_elements e = record { complete = e.complete; cause = e.cause; channel = e.channel; progress = e.progress; digits = seen_digits e.digits }
 
 abbrev pub seen_record : Message Part → Message DigitsPart
 seen_record m = record { reference = m.reference; kind = m.kind; elements = seen_elements m.elements }

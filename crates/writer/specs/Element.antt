@@ -17,8 +17,7 @@ placed buffer contents = min (length contents) (min 255 (length buffer - 2))
 
 -- the octets behind a writing
 abbrev pub element_buffer : List ℕ → ℕ → List ℕ → List ℕ
-element_buffer buffer id contents =
-    if nat_lt (length buffer) 2 then buffer else over buffer id (placed buffer contents) contents
+element_buffer buffer id contents = if nat_lt (length buffer) 2 then buffer else over buffer id (placed buffer contents) contents
 
 -- how many octets the element takes, where all its contents found a place
 abbrev pub element_answer : List ℕ → List ℕ → Result ℕ Ground

@@ -1,9 +1,5 @@
 use Rattle.std.proofs.Common.{Option, sym, subst}
-use Rattle.messages.specs.declared.record.Channel.{Channel}
-use Rattle.calls.proofs.Dids.{bounded}
-use Rattle.call_table.specs.Tokens.{token_channel}
-use Rattle.gateway.specs.Stands.{Granted}
-use Rattle.gateway.proofs.Seizures.{granted_by}
+use Rattle.gateway.proofs.Cited.{Channel, bounded, token_channel, Granted, granted_by}
 use Rattle.gateway.proofs.setup.seize_for.Goals as goal
 
 pub returns-in-Some-clause-the_wished_or_any_or_none : goal.returns-in-Some-clause-the_wished_or_any_or_none

@@ -1,15 +1,7 @@
 -- Each row of the rule, as the code comes to it.
 use Rattle.std.proofs.Common.{ℕ, Some, None, sym, refl, ap, ◌∙◌, subst, arith}
 use Rattle.std.proofs.lemmas.Bool.{cond-true, cond-false}
-use Rattle.messages.specs.declared.record.Message.{Message}
-use Rattle.messages.specs.declared.record.Part.{Part}
-use Rattle.reader.specs.Seen.{seen_record}
-use Rattle.calls.specs.Effects.{Effect, misdialled, begins}
-use Rattle.calls.specs.Rules.{Change, rejects, seated, admitted}
-use Rattle.calls.proofs.Choices.{fair_pick, fair_choice}
-use Rattle.calls.proofs.Dids.{bounded}
-use Rattle.gateway.specs.Stands.{state_of, Ready}
-use Rattle.gateway.proofs.Seizures.{ready_begins, begins_seizes, seated_by}
+use Rattle.gateway.proofs.Cited.{Message, Part, seen_record, Effect, misdialled, begins, Change, rejects, seated, admitted, fair_pick, fair_choice, bounded, state_of, Ready, ready_begins, begins_seizes, seated_by}
 use Rattle.gateway.proofs.gateway.Gateway.admit.Goals as goal
 
 pub returns-in_default-clause-by_the_order_of_the_rule : goal.returns-in_default-clause-by_the_order_of_the_rule

@@ -1,6 +1,5 @@
 use Rattle.std.proofs.Common.{ap, ◌∙◌}
-use Rattle.calls.specs.Standing.{is_sound}
-use Rattle.calls.proofs.Sounds.{sound_set}
+use Rattle.gateway.proofs.Cited.{is_sound, sound_set}
 use Rattle.gateway.proofs.gateway.Gateway.apply.Goals as goal
 
 pub invariant_of-self : goal.invariant_of-self

@@ -1,23 +1,15 @@
 use Rattle.std.proofs.Common.{sym, ap, ◌∙◌, subst}
-use Rattle.reader.specs.Seen.{seen_record}
-use Rattle.calls.specs.Effects.{on_type}
-use Rattle.calls.specs.Rules.{Choice, Outcome, at}
-use Rattle.calls.proofs.Dids.{bounded, plainly}
-use Rattle.decisions.specs.Outcomes.{outcome_of}
-use Rattle.gateway.specs.Stands.{state_of, Possible}
-use Rattle.gateway.proofs.Seizures.{possible_at}
-use Rattle.gateway.proofs.Unseizing.{unpicked}
+use Rattle.gateway.proofs.Cited.{seen_record, on_type, Choice, Outcome, at, bounded, plainly, outcome_of, state_of, Possible, possible_at, unpicked}
 use Rattle.gateway.proofs.gateway.Gateway.at_call.Goals as goal
 
 pub settle-requires : goal.settle-requires
 settle-requires g c =
     let st = state_of g.P.Pool.state c.args.self.now c.args.queues.now in
-    let b = bounded g.P.Pool.state g.P.Pool.top g.met.P.Pool.known_within_top g.met.P.Pool.top_within_127 c.args.self.now.trunk.pool in
     let m = seen_record c.args.message in
     let f = c.args.found in
     record {
       possible = subst (Possible st.table) (sym c.at_its_call-decision.ensures.by_type_and_state)
-          (possible_at st c.args.self.now.table.whole c.args.self.now.sound f.place f.call c.requires.found.0 c.requires.found.1 b c.requires.live st.full m (sym c.if-wants_another.ensures.setup_refused_for_its_channel));
+          (possible_at st c.args.self.now.table.whole c.args.self.now.sound f.place f.call c.requires.found.0 c.requires.found.1 c.requires.live st.full m);
       roomy = c.requires.roomy;
     }
 

@@ -1,15 +1,5 @@
 use Rattle.std.proofs.Common.{ℕ, [], ◌∷◌, Some, None, Ok, sym, refl, ap, ◌∙◌, append-nil}
-use Rattle.queues.specs.Waiting.{waiting, room}
-use Rattle.calls.specs.declared.answers.Answer.{Answer}
-use Rattle.calls.specs.declared.answers.Report.{Report}
-use Rattle.calls.specs.declared.outgoing.SipMessage.{SipMessage}
-use Rattle.calls.specs.Effects.{invited}
-use Rattle.calls.specs.Rules.{Choice, Fair, Change, replies, calls_out}
-use Rattle.calls.proofs.Choices.{fair_pick}
-use Rattle.calls.proofs.Dids.{bounded, did, moved}
-use Rattle.effects.specs.Moves.{effect_of}
-use Rattle.gateway.specs.Stands.{state_of}
-use Rattle.gateway.proofs.Ways.{replied}
+use Rattle.gateway.proofs.Cited.{Answer, waiting, room, Report, SipMessage, invited, Choice, Fair, Change, replies, calls_out, fair_pick, bounded, did, moved, effect_of, state_of, replied}
 use Rattle.gateway.proofs.gateway.Gateway.call_out.Goals as goal
 
 pub returns-in_default : goal.returns-in_default

@@ -1,14 +1,7 @@
 -- With room the outcome is what was decided, without room the refusal for it, whatever the event.
 use Rattle.std.proofs.Common.{Err, sym, refl, ap, ◌∙◌}
 use Rattle.std.proofs.lemmas.Bool.{cond-true, cond-false}
-use Rattle.refusals.specs.declared.Ground.{Ground}
-use Rattle.calls.specs.declared.answers.Answer.{Answer}
-use Rattle.calls.specs.declared.answers.Refused.{Refused}
-use Rattle.calls.specs.Rules.{outcome, refuse, is_roomy}
-use Rattle.calls.proofs.Dids.{bounded, plainly}
-use Rattle.decisions.specs.Outcomes.{outcome_of}
-use Rattle.gateway.specs.Stands.{state_of}
-use Rattle.gateway.proofs.Ways.{passed_on}
+use Rattle.gateway.proofs.Cited.{Answer, Ground, Refused, outcome, refuse, is_roomy, bounded, plainly, outcome_of, state_of, passed_on}
 use Rattle.gateway.proofs.gateway.Gateway.carry_out.Goals as goal
 
 pub returns-clause-a_step_of_each_event_that_comes_to_it : goal.returns-clause-a_step_of_each_event_that_comes_to_it

@@ -1,15 +1,5 @@
 use Rattle.std.proofs.Common.{ℕ, Option, [], ◌∷◌, Ok, Err, sym, refl, ap, ◌∙◌, append-nil}
-use Rattle.refusals.specs.declared.Ground.{Ground}
-use Rattle.queues.specs.Waiting.{waiting, room}
-use Rattle.calls.specs.declared.answers.Answer.{Answer}
-use Rattle.calls.specs.declared.answers.Refused.{Refused}
-use Rattle.calls.specs.declared.answers.Report.{Report}
-use Rattle.calls.specs.declared.outgoing.SipMessage.{SipMessage}
-use Rattle.calls.specs.Sides.{holds_dialogue}
-use Rattle.calls.specs.Rules.{Choice, Outcome, refuse, replies, unless_refused, unless_answered, calls_out, dialling_status, on_invite, seek, by_transaction}
-use Rattle.calls.proofs.Dids.{bounded, plainly, in_room}
-use Rattle.gateway.specs.Stands.{state_of}
-use Rattle.gateway.proofs.Ways.{passed_on, replied, full_refused}
+use Rattle.gateway.proofs.Cited.{Answer, Ground, waiting, room, Refused, Report, SipMessage, holds_dialogue, Choice, Outcome, refuse, replies, unless_refused, unless_answered, calls_out, dialling_status, on_invite, seek, by_transaction, bounded, plainly, in_room, state_of, passed_on, replied, full_refused}
 use Rattle.gateway.proofs.gateway.Gateway.invite.Goals as goal
 
 pub returns-in_err-need_room-clause-steps_by_the_rules : goal.returns-in_err-need_room-clause-steps_by_the_rules

@@ -1,10 +1,5 @@
 use Rattle.std.proofs.Common.{sym, refl, ap}
-use Rattle.messages.specs.Reading.{decoded}
-use Rattle.calls.specs.Refusing.{placed}
-use Rattle.calls.specs.Rules.{Refuse, on_octets}
-use Rattle.calls.proofs.Dids.{bounded, plainly}
-use Rattle.gateway.specs.Stands.{state_of}
-use Rattle.gateway.proofs.Ways.{passed_on}
+use Rattle.gateway.proofs.Cited.{decoded, placed, Refuse, on_octets, bounded, plainly, state_of, passed_on}
 use Rattle.gateway.proofs.gateway.Gateway.message.Goals as goal
 
 pub returns-in_err-message-clause-steps_by_the_rules : goal.returns-in_err-message-clause-steps_by_the_rules

@@ -1,12 +1,5 @@
 use Rattle.std.proofs.Common.{Err, ap, ◌∙◌}
-use Rattle.reader.specs.Seen.{seen_record}
-use Rattle.calls.specs.declared.answers.Answer.{Answer}
-use Rattle.calls.specs.declared.answers.Refused.{Refused}
-use Rattle.calls.specs.declared.record.Found.{Found}
-use Rattle.calls.specs.Rules.{Choice, Outcome, on_message, seek, by_reference}
-use Rattle.calls.proofs.Dids.{bounded}
-use Rattle.gateway.specs.Stands.{state_of}
-use Rattle.gateway.proofs.Ways.{passed_on, full_refused, found_live}
+use Rattle.gateway.proofs.Cited.{Answer, seen_record, Refused, Found, Choice, Outcome, on_message, seek, by_reference, bounded, state_of, passed_on, full_refused, found_live}
 use Rattle.gateway.proofs.gateway.Gateway.on_message.Goals as goal
 
 pub returns-in_err-need_room-clause-by_the_rules : goal.returns-in_err-need_room-clause-by_the_rules

@@ -1,10 +1,6 @@
 -- The call that was admitted enters its place with the token of its channel.
 use Rattle.std.proofs.Common.{◌≡◌, refl, ap, ◌∙◌}
-use Rattle.reader.specs.Seen.{seen_record}
-use Rattle.calls.specs.Rules.{State, Change, on_setup, settled}
-use Rattle.calls.proofs.Dids.{did, moved}
-use Rattle.effects.specs.Moves.{effect_of}
-use Rattle.gateway.specs.Stands.{state_of}
+use Rattle.gateway.proofs.Cited.{seen_record, State, Change, on_setup, settled, did, moved, effect_of, state_of}
 use Rattle.gateway.proofs.gateway.Gateway.on_setup.Goals as goal
 
 pub returns-in-Ok : goal.returns-in-Ok

@@ -1,4 +1,4 @@
-use Rattle.calls.specs.Run.{opened}
+use Rattle.gateway.proofs.Cited.{opened}
 use Rattle.gateway.proofs.gateway.Gateway.open.Goals as goal
 
 pub returns-clause-history_begins_empty : goal.returns-clause-history_begins_empty

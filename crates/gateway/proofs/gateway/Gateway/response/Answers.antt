@@ -1,23 +1,14 @@
 use Rattle.std.proofs.Common.{Err, sym, refl, ap}
 use Rattle.std.proofs.lemmas.Bool.{cond-true, cond-false}
-use Rattle.refusals.specs.declared.Ground.{Ground}
-use Rattle.calls.specs.declared.answers.Answer.{Answer}
-use Rattle.calls.specs.declared.answers.Refused.{Refused}
-use Rattle.calls.specs.Rules.{Response, on_response, roomed, refuse, is_status}
-use Rattle.calls.proofs.Dids.{bounded, plainly}
-use Rattle.gateway.specs.Stands.{state_of}
-use Rattle.gateway.proofs.Ways.{possible_step}
-use Rattle.gateway.proofs.Unseizing.{response_still}
+use Rattle.gateway.proofs.Cited.{Answer, Ground, Refused, Response, on_response, roomed, refuse, is_status, bounded, plainly, state_of, possible_step}
 use Rattle.gateway.proofs.gateway.Gateway.response.Goals as goal
 
 pub carry_out-requires : goal.carry_out-requires
 carry_out-requires g c =
     let st = state_of g.P.Pool.state c.args.self.now c.args.queues.now in
-    let b = bounded g.P.Pool.state g.P.Pool.top g.met.P.Pool.known_within_top g.met.P.Pool.top_within_127 c.args.self.now.trunk.pool in
     record {
-      possible_with_room = possible_step st c.args.self.now.table.whole c.args.self.now.sound b (Response _ c.args.response.status _ _) (on_response st.table _ c.args.response.status _ _) _ c.on_response-decision.ensures.by_the_status
-          (λ ch. cond-true (is_status c.args.response.status) (roomed st _) (refuse Ground.StatusOutOfRange) (sym c.if-not-is_status.ensures.from_100_to_699))
-          (response_still st.table _ c.args.response.status _ _);
+      possible_with_room = possible_step st c.args.self.now.table.whole c.args.self.now.sound (Response _ c.args.response.status _ _) (on_response st.table _ c.args.response.status _ _) _ c.on_response-decision.ensures.by_the_status
+          (λ ch. cond-true (is_status c.args.response.status) (roomed _ _) (refuse Ground.StatusOutOfRange) (sym c.if-not-is_status.ensures.from_100_to_699));
     }
 
 pub returns-then-not-is_status-clause-steps_by_the_rules : goal.returns-then-not-is_status-clause-steps_by_the_rules

@@ -1,12 +1,5 @@
 use Rattle.std.proofs.Common.{ℕ, Option, sym, refl, ap, ◌∙◌, subst}
-use Rattle.calls.specs.Effects.{Effect, tries_again}
-use Rattle.calls.specs.Rules.{Choice, Fair, Change}
-use Rattle.calls.proofs.Choices.{fair_place}
-use Rattle.calls.proofs.Dids.{did, moved}
-use Rattle.call_table.specs.Tokens.{token_channel}
-use Rattle.effects.specs.Moves.{effect_of}
-use Rattle.gateway.specs.Stands.{state_of, Ready}
-use Rattle.gateway.proofs.Seizures.{ready_again, again_seizes}
+use Rattle.gateway.proofs.Cited.{Effect, tries_again, Choice, Fair, Change, fair_place, did, moved, token_channel, effect_of, state_of, Ready, ready_again, again_seizes}
 use Rattle.gateway.proofs.gateway.Gateway.retry.Goals as goal
 
 pub apply-requires : goal.apply-requires

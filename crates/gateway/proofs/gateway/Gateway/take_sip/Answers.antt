@@ -1,9 +1,5 @@
 use Rattle.std.proofs.Common.{refl, ap}
-use Rattle.queues.specs.Waiting.{waiting}
-use Rattle.calls.specs.declared.answers.Answer.{Answer}
-use Rattle.calls.specs.Rules.{TookSip}
-use Rattle.calls.proofs.Dids.{bounded, plainly, first_taken}
-use Rattle.gateway.specs.Stands.{state_of}
+use Rattle.gateway.proofs.Cited.{Answer, waiting, TookSip, bounded, plainly, first_taken, state_of}
 use Rattle.gateway.proofs.gateway.Gateway.take_sip.Goals as goal
 
 pub returns-clause-steps_by_the_rules : goal.returns-clause-steps_by_the_rules

@@ -1,10 +1,5 @@
 use Rattle.std.proofs.Common.{sym, ◌∙◌}
-use Rattle.reader.specs.Seen.{seen_record}
-use Rattle.calls.specs.Rules.{uncalled}
-use Rattle.calls.proofs.Dids.{bounded, plainly}
-use Rattle.decisions.specs.Outcomes.{outcome_of}
-use Rattle.gateway.specs.Stands.{state_of}
-use Rattle.gateway.proofs.Unseizing.{turned_away_lem}
+use Rattle.gateway.proofs.Cited.{seen_record, uncalled, bounded, plainly, outcome_of, state_of, turned_away_lem}
 use Rattle.gateway.proofs.gateway.Gateway.without_call.Goals as goal
 
 pub returns-else-is_setup : goal.returns-else-is_setup
