@@ -12,6 +12,7 @@ pub use Rattle.calls.specs.Standing.{is_sound}
 pub use Rattle.decisions.specs.Outcomes.{outcome_of}
 pub use Rattle.effects.specs.Moves.{effect_of}
 pub use Rattle.gateway.proofs.Seizures.{again_seizes, begins_seizes, granted_by, possible_at, ready_again, ready_begins, seated_by}
+pub use Rattle.gateway.proofs.Channels.{all_unknown}
 pub use Rattle.gateway.proofs.Closed.{turned_away_lem, unpicked}
 pub use Rattle.gateway.proofs.Ways.{found_live, full_refused, passed_on, possible_step, replied}
 pub use Rattle.gateway.specs.Stands.{Granted, Possible, Ready, state_of}
