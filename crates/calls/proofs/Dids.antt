@@ -45,7 +45,7 @@ module _ (st : State) where
   pub moved : (i : ℕ) (e e' : Effect) (o : Option ℕ) (p : States) {r : Report} {st' : State} → ((k : ℕ) → p k ≡ after_any o st.pool k) → e ≡ e' → e'.seized ≡ o → r ≡ reported e → st' ≡ settled (with_pool p) i e → (Answer.Step (Ok r) ≡ answer_of st (Change i e')) × (st' ≡ applied st (Change i e'))
   moved i e e' o p h q s a b = (ap (λ (x : Report). Answer.Step (Ok x)) (a ∙ ap reported q), b ∙ ap (settled (with_pool p) i) q ∙ seized_change p i e' o h s)
 
--- what a taking answers and leaves
+-- what is answered and left where the oldest message is taken
 pub first_taken : {X : Type 0} (r : Option X) (xs ys : List X) (P : Type 0) → (P → ys ≡ xs) → MatchOption r ((xs ≡ []) × P) (λ m. xs ≡ m ∷ ys) → (r ≡ first xs) × (ys ≡ drop 1 xs)
 first_taken None xs ys P f h = (sym (ap first h.0), f h.1 ∙ h.0 ∙ sym (ap (drop 1) h.0))
 first_taken (Some m) xs ys P f h = (sym (ap first h), sym (ap (drop 1) h))

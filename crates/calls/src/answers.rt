@@ -77,7 +77,7 @@ impl fmt::Display for Refused {
 
 impl Error for Refused {}
 
-/// What came of an event: of a step its report or refusal, of a taking what was taken.
+/// What came of an event: of a step its report or refusal, else the message that was taken, if one waited.
 #[derive(Clone, Copy, PartialEq, Eq, Debug)]
 pub enum Answer {
     Step(Result<Report, Refused>),
