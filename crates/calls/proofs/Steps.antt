@@ -160,6 +160,10 @@ module _ (st : State) (s : Everywhere SoundAt st.table) where
   owes_misses : (t : ℕ) (k : Call) → by_transaction t k ≡ false → owes t k ≡ 0
   owes_misses t k e = grind (arith, nat_tests)
 
+  -- the statuses for digits that make no call are final, whichever digits get which
+  dialling_final : (xs : List ℕ) (s : ℕ) → dialling_status xs ≡ Some s → (Names.first_failure ≤ s) × (s ≤ Names.last_status)
+  dialling_final xs s e = (grind (arith, nat_tests), grind (arith, nat_tests))
+
   fresh_invite : (t d : ℕ) → Misses (by_transaction t) st.table → Fresh st (AnInvite t d)
   fresh_invite t d h x e =
       let z : t ≡ x = grind (arith, nat_tests) in
@@ -175,12 +179,6 @@ module _ (st : State) (s : Everywhere SoundAt st.table) where
       calls_out_lawful (Some i) None p h = replies_lawful _ (omega arith) (omega arith)
       calls_out_lawful None pick p h = replies_lawful _ (omega arith) (omega arith)
 
-      -- the statuses for digits that make no call are final
-      status_final : (a b : Bool) (x y s : ℕ) → Names.first_failure ≤ x → x ≤ Names.last_status → Names.first_failure ≤ y → y ≤ Names.last_status → cond a (Some x) (cond b None (Some y)) ≡ Some s → (Names.first_failure ≤ s) × (s ≤ Names.last_status)
-      status_final true b x y s lx hx ly hy e = let z : x ≡ s = cc in (omega (arith, z), omega (arith, z))
-      status_final false true x y s lx hx ly hy e = absurd (let z : ◌≡◌ {A = ℕ} 0 1 = cc in omega arith)
-      status_final false false x y s lx hx ly hy e = let z : y ≡ s = cc in (omega (arith, z), omega (arith, z))
-
       dialled_lawful : (o : Option ℕ) → ((s : ℕ) → o ≡ Some s → (Names.first_failure ≤ s) × (s ≤ Names.last_status)) → Lawful st (AnInvite t d) (unless_answered t o (calls_out t d xs ch.place ch.pick))
       dialled_lawful None h = calls_out_lawful ch.place ch.pick fair.place fair.pick
       dialled_lawful (Some s) h = let w = h s refl in replies_lawful s w.0 w.1
@@ -190,8 +188,7 @@ module _ (st : State) (s : Everywhere SoundAt st.table) where
     invite_lawful (Some f) None h = tt
     invite_lawful None (Some g) h = tt
     invite_lawful None None h =
-        let f = fresh_invite t d h in
-        dialled_lawful f (dialling_status xs) (λ s e. status_final f _ _ _ _ s (omega arith) (omega arith) (omega arith) (omega arith) e)
+        dialled_lawful (fresh_invite t d h) (dialling_status xs) (dialling_final xs)
 
   -- a response that is no 200 brings nothing that counts
   module _ (n d : ℕ) where
