@@ -12,7 +12,7 @@ use Rattle.call_table.specs.Wishes.{WishGets}
 -- a call from the exchange on channel c; its digits are awaited
 abbrev pub call_on : ℕ → Call
 call_on c =
-    record { reference = record { flag = false; number = 1 }; channel = c; origin = Origin.Sip; digits = record { octets = replicate 20 0; count = 0 }; exchange = ExchangeSide.Collecting; sip = SipSide.None }
+    record { reference = record { flag = false; number = 1 }; channel = c; origin = Origin.Exchange 1; digits = record { octets = replicate 20 0; count = 0 }; exchange = ExchangeSide.Collecting; sip = SipSide.None }
 
 -- by the wish where the place is free, else none
 abbrev pub Occupies : Bool → Bool → Bool → ℕ → States → Option ℕ → Type 0

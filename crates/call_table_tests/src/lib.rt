@@ -27,7 +27,7 @@ pub fn call_on(channel: u8) -> Call
             number: 1,
         },
         channel,
-        origin: Origin::Sip,
+        origin: Origin::Exchange { number: 1 },
         digits: Digits {
             octets: [0; 20],
             count: 0,

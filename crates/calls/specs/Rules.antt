@@ -61,13 +61,13 @@ pub data Outcome : Type 0 where
   TookSip : Outcome
 
 -- refused on a ground that has no place in the octets
-abbrev pub refuse : (ground : Ground) → Outcome
-refuse ground = Refuse (placeless ground)
+abbrev pub refuse : Ground → Outcome
+refuse why = Refuse (placeless why)
 
 -- refused on this ground, if there is one
 abbrev pub unless_refused : Option Ground → Outcome → Outcome
 unless_refused None o = o
-unless_refused (Some ground) o = refuse ground
+unless_refused (Some why) o = refuse why
 
 -- ---------------------------------------------------------------- searches
 abbrev pub later : Option Found → Option Found
@@ -109,7 +109,7 @@ by_transaction t k = is_unanswered t k.sip
 -- what a rule says of the call that was found, or no such call
 abbrev pub at : ℕ → Result Effect Ground → Outcome
 at i (Ok e) = Change i e
-at i (Err ground) = refuse ground
+at i (Err why) = refuse why
 
 abbrev pub at_call : (Call → Result Effect Ground) → Option Found → Outcome
 at_call rule None = refuse Ground.NoSuchCall

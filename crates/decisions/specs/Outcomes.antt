@@ -15,7 +15,7 @@ use Rattle.decisions.specs.declared.outcome.Outcome.{Outcome}
 abbrev pub outcome_of : Result Outcome Ground → rules.Outcome
 outcome_of (Ok (Outcome.Reply ms ss)) = rules.Reply (few_items ms) (few_items ss)
 outcome_of (Ok (Outcome.Change i e)) = rules.Change i (effect_of e)
-outcome_of (Err ground) = refuse ground
+outcome_of (Err why) = refuse why
 
 abbrev pub is_release_complete : MessageType → Bool
 is_release_complete MessageType.ReleaseComplete = true

@@ -21,4 +21,4 @@ effect_of e =
 -- an effect, or the ground of a refusal
 abbrev pub decision_of : Result Effect Ground → Result rules.Effect Ground
 decision_of (Ok e) = Ok (effect_of e)
-decision_of (Err ground) = Err ground
+decision_of (Err why) = Err why

@@ -75,19 +75,19 @@ noted_inside octets id place contents s i b =
     (tested P (eqb id 30 && absent s.progress) _ _ (keeping P place (progress_of contents) (with_progress s) i)
     (tested P (eqb id 112 && absent s.digits) _ _ (keeping P place (digits_of place contents) (with_digits s) b) (read_so P s i))))))
 
-gathered_inside : (octets : List ℕ) (k place : ℕ) (xs : List ℕ) (s : Elements DigitsPart) → drop place octets ≡ xs → Inside octets s.digits → Keeps (λ e. Inside octets e.digits) (elements_from k place xs s)
-gathered_inside octets k place [] s h i = read_so (λ e. Inside octets e.digits) s i
-gathered_inside octets (suc k) place (x ∷ xs) s h i = gathered_inside octets k (place + 1) xs s (later octets place 1 (x ∷ xs) h) i
-gathered_inside octets zero place (x ∷ xs) s h i =
+elements_inside : (octets : List ℕ) (k place : ℕ) (xs : List ℕ) (s : Elements DigitsPart) → drop place octets ≡ xs → Inside octets s.digits → Keeps (λ e. Inside octets e.digits) (elements_from k place xs s)
+elements_inside octets k place [] s h i = read_so (λ e. Inside octets e.digits) s i
+elements_inside octets (suc k) place (x ∷ xs) s h i = elements_inside octets k (place + 1) xs s (later octets place 1 (x ∷ xs) h) i
+elements_inside octets zero place (x ∷ xs) s h i =
     let P : Elements DigitsPart → Type 0 = λ e. Inside octets e.digits in
     let next = later octets place 1 (x ∷ xs) h in
     tested P (leb 128 x) _ _
-    (followed P (noted x place [] s) (λ m. elements_from 0 (place + 1) xs m) P (noted_inside octets x place [] s i tt) (λ m j. gathered_inside octets 0 (place + 1) xs m next j))
+    (followed P (noted x place [] s) (λ m. elements_from 0 (place + 1) xs m) P (noted_inside octets x place [] s i tt) (λ m j. elements_inside octets 0 (place + 1) xs m next j))
     (tested P (ltb (length xs) (get_or xs 0 0 + 1)) _ _ (refused P (record { ground = ElementPastEnd; place = place }))
     (followed P (noted x place (take (get_or xs 0 0) (drop 1 xs)) s) (λ m. elements_from (get_or xs 0 0 + 1) (place + 1) xs m) P
     (noted_inside octets x place (take (get_or xs 0 0) (drop 1 xs)) s i (brought octets place (get_or xs 0 0) (drop 1 xs) (later octets place 2 (x ∷ xs) h)))
-    (λ m j. gathered_inside octets (get_or xs 0 0 + 1) (place + 1) xs m next j)))
+    (λ m j. elements_inside octets (get_or xs 0 0 + 1) (place + 1) xs m next j)))
 
 -- the digits of a message are that part of its octets
 pub read_inside : (octets : List ℕ) (e : Elements DigitsPart) → elements_from 0 5 (drop 5 octets) bare ≡ Ok e → Inside octets e.digits
-read_inside octets e h = gathered_inside octets 0 5 (drop 5 octets) bare refl tt e h
+read_inside octets e h = elements_inside octets 0 5 (drop 5 octets) bare refl tt e h

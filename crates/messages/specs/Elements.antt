@@ -1,4 +1,4 @@
--- What each information element holds, by its contents, and how a message's elements are elements_from.
+-- What each information element holds, by its contents, and how a message's elements are read one after the other.
 use Rattle.std.specs.Prelude.{ℕ, ◌+◌, ◌%◌, Bool, true, false, if◌then◌else◌, ◌&&◌, ◌||◌, List, length, drop, Some, None, Ok, Err, Option, Result, ◌==◌, nat_le, slice_index}
 use Rattle.std.specs.List.{list_all}
 use Rattle.refusals.specs.declared.Ground.{Ground}

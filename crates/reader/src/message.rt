@@ -15,7 +15,7 @@ use refusals::Ground;
 const HEADER: usize = 5;
 
 fn read_elements(part: &[u8]) -> Result<Elements<Part<'_>>, Misread>
-    ensures gathered_from_the_left { seen_noted result ≡ elements_from 0 5 part.now bare }
+    ensures read_from_the_left { seen_noted result ≡ elements_from 0 5 part.now bare }
 {
     // Stays a literal: after a call of `bare` the borrow checker does not cover the loop.
     let mut seen = Elements {

@@ -13,6 +13,6 @@ handed_out octets (Some p) i = i
 pub returns-clause-digits_are_that_part : goal.returns-clause-digits_are_that_part
 returns-clause-digits_are_that_part c =
     let rest = c.in_ok-header.ensures.the_rest in
-    let all = c.in_ok-elements.ensures.gathered_from_the_left in
+    let all = c.in_ok-elements.ensures.read_from_the_left in
     let read = sym (all ∙ ap (λ xs. elements_from 0 5 xs bare) rest) in
     handed_out c.args.octets.now _ (read_inside c.args.octets.now (seen_elements c.in_ok-elements.elements) read)
