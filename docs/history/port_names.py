@@ -1,7 +1,7 @@
 #!/usr/bin/env python3
 """Brings the repository's own definitions and lemmas to the spelling of today's Rattle, once, after port.py.
 
-usage: python3 tools/port_names.py [FOLDER]      (FOLDER is the top of the checkout; it is the working folder where none is given)
+usage: python3 docs/history/port_names.py [FOLDER]      (FOLDER is the top of the checkout; it is the working folder where none is given)
 
 What it does, in this order:
   - the crate hex, whose name is one of the kit's libraries, becomes hexadecimal: folder, crates.txt, paths and calls;
