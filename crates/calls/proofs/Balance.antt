@@ -32,13 +32,13 @@ Asked last _ = Unit {0}
 
 -- what an event and its effect keep in balance at one place
 pub record Balanced (pool : States) (old : Option Call) (ev : Brought) (e : Effect) : Type 0 where
-  pub channels : (c : ℕ) → named c e.seized + on_call (holds c) old ≡ named c e.released + on_call (holds c) e.after
+  pub seizures_balance : (c : ℕ) → named c e.seized + on_call (holds c) old ≡ named c e.released + on_call (holds c) e.after
   pub idle : (c : ℕ) → named c e.seized ≡ 1 → idle (pool c) ≡ true
-  pub invites : (t : ℕ) → invite_count t ev + on_call (owes t) old ≡ finals_in t e.sip + on_call (owes t) e.after
-  pub connects : (r : ℕ) → connects_in r e.exchange + on_call (may_connect r) e.after ≤ setup_count r ev + on_call (may_connect r) old
-  pub talking : (d : ℕ) → bye_in d e.sip ≡ false → is_bye_on d ev ≡ false → on_call (talks_call d) old ≤ on_call (talks_call d) e.after
-  pub opening : (d : ℕ) → is_ok_on d ev ≡ true → bye_in d e.sip ≡ false → on_call (talks_call d) e.after ≡ 1
-  pub sending : (last : ℕ → Option ℕ) (d : ℕ) → LinkedAt last old → sends d last e.sip ≡ true → on_call (talks_call d) e.after ≡ 1
+  pub invites_balance : (t : ℕ) → invite_count t ev + on_call (owes t) old ≡ finals_in t e.sip + on_call (owes t) e.after
+  pub connects_were_asked : (r : ℕ) → connects_in r e.exchange + on_call (may_connect r) e.after ≤ setup_count r ev + on_call (may_connect r) old
+  pub dialogue_goes_on : (d : ℕ) → bye_in d e.sip ≡ false → is_bye_on d ev ≡ false → on_call (talks_call d) old ≤ on_call (talks_call d) e.after
+  pub dialogue_opens : (d : ℕ) → is_ok_on d ev ≡ true → bye_in d e.sip ≡ false → on_call (talks_call d) e.after ≡ 1
+  pub dialogue_opens_by_ours : (last : ℕ → Option ℕ) (d : ℕ) → LinkedAt last old → sends d last e.sip ≡ true → on_call (talks_call d) e.after ≡ 1
   pub linked : (last : ℕ → Option ℕ) → Asked last ev → LinkedAt last old → LinkedAt last e.after
   pub sound : SoundAt e.after
   pub present : PresentAt e.after
@@ -75,13 +75,13 @@ pub moved_balanced : (pool : States) (ev : Brought) → Uninvited ev → (k : Ca
 moved_balanced pool ev u k ds a b la lb i s =
     let z = moved_call k ds a b in
     record {
-      channels = λ c. la.channels c ∙ ap (λ n. named c a.released + n) (sym (gone_sum (holds c) z (λ e _. holds_over c z e)));
+      seizures_balance = λ c. la.seizures_balance c ∙ ap (λ n. named c a.released + n) (sym (gone_sum (holds c) z (λ e _. holds_over c z e)));
       idle = i;
-      invites = λ t. omega (arith, u t, lb.invites t, gone_sum (owes t) z (λ _ e. owes_off t b.side e));
-      connects = λ r. omega (arith, la.connects r, gone_sum (may_connect r) z (λ e _. may_over r z e));
-      talking = λ d x y. omega (arith, lb.talking d x y, gone_sum (talks_call d) z (λ _ e. talks_off d b.side e));
-      opening = λ d x y. gone_sum (talks_call d) z (λ _ e. talks_off d b.side e) ∙ lb.opening d x y;
-      sending = λ last d x y. gone_sum (talks_call d) z (λ _ e. talks_off d b.side e) ∙ lb.sending last d x y;
+      invites_balance = λ t. omega (arith, u t, lb.invites_balance t, gone_sum (owes t) z (λ _ e. owes_off t b.side e));
+      connects_were_asked = λ r. omega (arith, la.connects_were_asked r, gone_sum (may_connect r) z (λ e _. may_over r z e));
+      dialogue_goes_on = λ d x y. omega (arith, lb.dialogue_goes_on d x y, gone_sum (talks_call d) z (λ _ e. talks_off d b.side e));
+      dialogue_opens = λ d x y. gone_sum (talks_call d) z (λ _ e. talks_off d b.side e) ∙ lb.dialogue_opens d x y;
+      dialogue_opens_by_ours = λ last d x y. gone_sum (talks_call d) z (λ _ e. talks_off d b.side e) ∙ lb.dialogue_opens_by_ours last d x y;
       linked = λ last _ x. gone_linked last z (lb.linked last x);
       sound = gone_sound z s;
       present = gone_present z;

@@ -5,8 +5,8 @@ use Rattle.messages.proofs.RoundTrip.{layout_examples}
 use Rattle.pools.specs.declared.channel.ChannelState.TheVariants.{Unknown, Idle, Seized}
 use Rattle.pools.specs.States.{idle}
 use Rattle.calls.specs.Records.{Answer}
-use Rattle.calls.specs.Rules.{Event, Exchange, Invite, Response, TakeExchange, TakeSip, State, Choice, Fair, outcome, applied, answer_of, Stepping, no_step, next_step}
-use Rattle.calls.specs.Examples.{opened, seven_and_nine, seven_alone, digits, disconnect, unavailable, AnsweredAfterCancel, AnsweredTwice, TriedOnAnother, TriedInVain, Collisions, Examples}
+use Rattle.calls.specs.Rules.{Event, Exchange, Invite, TakeExchange, TakeSip, State, Choice, Fair, outcome, applied, answer_of, Stepping, no_step, next_step}
+use Rattle.calls.specs.Examples.{answered_on, opened, seven_and_nine, seven_alone, digits, disconnect, unavailable, AnsweredAfterCancel, AnsweredTwice, TriedOnAnother, TriedInVain, Collisions, Examples}
 
 -- one event more
 then : {entry st : State} {evs : List Event} {ans : List Answer} → Stepping entry evs ans st → (ch : Choice) (ev : Event) → Fair st ch → Stepping entry (evs ++ ev ∷ []) (ans ++ answer_of st (outcome st ch ev) ∷ []) (applied st (outcome st ch ev))
@@ -32,7 +32,7 @@ answered_after_cancel =
     let s0 : Stepping (opened seven_and_nine) [] [] (opened seven_and_nine) = no_step in
     let s1 = then s0 (on 7 0) (Exchange setup417_octets) (record { pick = refl; place = (lit≤ tt, refl) }) in
     let s2 = then s1 (on 9 1) (Exchange disconnect) (record { pick = refl; place = (lit≤ tt, refl) }) in
-    let s3 = then s2 (on 9 1) (Response 1 200 70 false) (record { pick = refl; place = (lit≤ tt, refl) }) in
+    let s3 = then s2 (on 9 1) (answered_on 70) (record { pick = refl; place = (lit≤ tt, refl) }) in
     let s4 = then s3 (on 9 1) TakeExchange (record { pick = refl; place = (lit≤ tt, refl) }) in
     let s5 = then s4 (on 9 1) TakeExchange (record { pick = refl; place = (lit≤ tt, refl) }) in
     let s6 = then s5 (on 9 1) TakeExchange (record { pick = refl; place = (lit≤ tt, refl) }) in
@@ -47,8 +47,8 @@ answered_twice : AnsweredTwice
 answered_twice =
     let s0 : Stepping (opened seven_and_nine) [] [] (opened seven_and_nine) = no_step in
     let s1 = then s0 (on 7 0) (Exchange setup417_octets) (record { pick = refl; place = (lit≤ tt, refl) }) in
-    let s2 = then s1 (on 9 1) (Response 1 200 70 false) (record { pick = refl; place = (lit≤ tt, refl) }) in
-    let s3 = then s2 (on 9 1) (Response 1 200 71 false) (record { pick = refl; place = (lit≤ tt, refl) }) in
+    let s2 = then s1 (on 9 1) (answered_on 70) (record { pick = refl; place = (lit≤ tt, refl) }) in
+    let s3 = then s2 (on 9 1) (answered_on 71) (record { pick = refl; place = (lit≤ tt, refl) }) in
     let s4 = then s3 (on 9 1) TakeExchange (record { pick = refl; place = (lit≤ tt, refl) }) in
     let s5 = then s4 (on 9 1) TakeExchange (record { pick = refl; place = (lit≤ tt, refl) }) in
     let s6 = then s5 (on 9 1) TakeExchange (record { pick = refl; place = (lit≤ tt, refl) }) in

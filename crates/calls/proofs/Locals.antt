@@ -60,7 +60,7 @@ module _ (pool : States) (ev : Brought) (u : Uninvited ev) (q : Quiet ev) (k : C
     no_sip = grind (arith, nat_tests)
 
     proceed_law : ExchangeLaw k (enters k ExchangeSide.Proceeding (tell MessageType.CallProceeding k ∷ []))
-    proceed_law = record { channels = λ c. grind (arith, nat_tests); connects = λ r. grind (arith, nat_tests) }
+    proceed_law = record { seizures_balance = λ c. grind (arith, nat_tests); connects_were_asked = λ r. grind (arith, nat_tests) }
 
     invited_fits : (origin : Origin) (ds : Digits) → sides_agree ExchangeSide.Proceeding (invites origin ds).side ≡ true
     invited_fits (Origin.Exchange n) ds = refl
@@ -70,7 +70,7 @@ module _ (pool : States) (ev : Brought) (u : Uninvited ev) (q : Quiet ev) (k : C
     proceeding ds = plainly ds _ _ refl proceed_law (invites_sip ev q k.origin ds k.sip no_sip) (invited_fits k.origin ds)
 
     collect_law : ExchangeLaw k (enters k ExchangeSide.Collecting [])
-    collect_law = record { channels = λ c. grind (arith, nat_tests); connects = λ r. grind (arith, nat_tests) }
+    collect_law = record { seizures_balance = λ c. grind (arith, nat_tests); connects_were_asked = λ r. grind (arith, nat_tests) }
 
     collect_fits : sides_agree ExchangeSide.Collecting k.sip ≡ true
     collect_fits = let z = no_sip in grind (arith, nat_tests)
@@ -204,7 +204,7 @@ module _ (pool : States) (ev : Brought) (u : Uninvited ev) (q : Quiet ev) (k : C
   -- only what the exchange has been told changes
   retold_sip : (x y : Told) → k.sip ≡ SipSide.InviteSent x → SipLaw ev k.sip (becomes (SipSide.InviteSent y) [])
   retold_sip x y e =
-      record { invites = λ t. grind (arith, nat_tests); talking = λ d a b. grind (arith, nat_tests); opening = λ d e a. let z = q d in grind (arith, nat_tests); sending = λ last d l e. grind (arith, nat_tests); linked = λ last l. tt }
+      record { invites_balance = λ t. grind (arith, nat_tests); dialogue_goes_on = λ d a b. grind (arith, nat_tests); dialogue_opens = λ d e a. let z = q d in grind (arith, nat_tests); dialogue_opens_by_ours = λ last d l e. grind (arith, nat_tests); linked = λ last l. tt }
 
   retold_fits : (x y : Told) → k.sip ≡ SipSide.InviteSent x → sides_agree k.exchange (SipSide.InviteSent y) ≡ true
   retold_fits x y e = grind (arith, nat_tests)
@@ -256,26 +256,26 @@ module _ (pool : States) (k : Call) (sound : sides_agree k.exchange k.sip ≡ tr
     -- ACK and BYE: the SIP side keeps what it has
     declines : (g : SipSide) → SipLaw ok g (becomes g (ack_and_bye n d))
     declines g =
-        record { invites = λ t. omega arith; talking = λ x p r. omega arith; opening = λ x p r. grind (arith, nat_tests); sending = λ last x l p. grind (arith, nat_tests); linked = λ last l. l }
+        record { invites_balance = λ t. omega arith; dialogue_goes_on = λ x p r. omega arith; dialogue_opens = λ x p r. grind (arith, nat_tests); dialogue_opens_by_ours = λ last x l p. grind (arith, nat_tests); linked = λ last l. l }
 
     -- or CANCEL was out, and the side is over
     ends_cancel : (g : SipSide) → g ≡ SipSide.CancelSent → SipLaw ok g (becomes SipSide.None (ack_and_bye n d))
     ends_cancel g e =
-        record { invites = λ t. grind (arith, nat_tests); talking = λ x p r. grind (arith, nat_tests); opening = λ x p r. grind (arith, nat_tests); sending = λ last x l p. grind (arith, nat_tests); linked = λ last l. tt }
+        record { invites_balance = λ t. grind (arith, nat_tests); dialogue_goes_on = λ x p r. grind (arith, nat_tests); dialogue_opens = λ x p r. grind (arith, nat_tests); dialogue_opens_by_ours = λ last x l p. grind (arith, nat_tests); linked = λ last l. tt }
 
     comes_up : (g : SipSide) (x : Told) → g ≡ SipSide.InviteSent x → SipLaw ok g (becomes (SipSide.Up d) (SipMessage.Ack n d ∷ []))
     comes_up g x e =
-        record { invites = λ t. grind (arith, nat_tests); talking = λ x p r. grind (arith, nat_tests); opening = λ x p r. grind (arith, nat_tests); sending = λ last x l p. grind (arith, nat_tests); linked = λ last l. tt }
+        record { invites_balance = λ t. grind (arith, nat_tests); dialogue_goes_on = λ x p r. grind (arith, nat_tests); dialogue_opens = λ x p r. grind (arith, nat_tests); dialogue_opens_by_ours = λ last x l p. grind (arith, nat_tests); linked = λ last l. tt }
 
     same_again : (g : SipSide) (y : ℕ) → g ≡ SipSide.Up y → SipLaw ok g (becomes g (cond (eqb y d) (SipMessage.Ack n d ∷ []) (ack_and_bye n d)))
     same_again g y e =
-        record { invites = λ t. grind (arith, nat_tests); talking = λ x p r. omega arith; opening = λ x p r. grind (arith, nat_tests); sending = λ last x l p. grind (arith, nat_tests); linked = λ last l. l }
+        record { invites_balance = λ t. grind (arith, nat_tests); dialogue_goes_on = λ x p r. omega arith; dialogue_opens = λ x p r. grind (arith, nat_tests); dialogue_opens_by_ours = λ last x l p. grind (arith, nat_tests); linked = λ last l. l }
 
     calm : (b : SipMove) → SipLaw ok k.sip b → sides_agree k.exchange b.side ≡ true → Balanced pool (Some k) ok (moved k (stays k []) b)
     calm b lb f = moved_balanced pool ok (λ t. refl) k k.digits (stays k []) b (stays_law k [] (λ r. refl)) lb (λ c e. unseized pool c e) f
 
     connect_law : (x : Told) → k.sip ≡ SipSide.InviteSent x → ExchangeLaw k (enters k ExchangeSide.ConnectSent (tell MessageType.Connect k ∷ []))
-    connect_law x e = record { channels = λ c. grind (arith, nat_tests); connects = λ r. grind (arith, nat_tests) }
+    connect_law x e = record { seizures_balance = λ c. grind (arith, nat_tests); connects_were_asked = λ r. grind (arith, nat_tests) }
 
     pub on_accept : (g : SipSide) → k.sip ≡ g → Balanced pool (Some k) ok (accepts k n d g)
     on_accept SipSide.None e = calm _ (declines k.sip) sound

@@ -22,11 +22,11 @@ pub record Inv (pool : States) (past : List Happening) (st : State) : Type 0 whe
   pub one : (c : ℕ) → holders c st ≤ 1
   pub shows : (c : ℕ) → st.pool c ≡ cond (eqb (holders c st) 0) (pool c) ChannelState.Seized
   pub free : (c : ℕ) → 0 < holders c st → pool c ≡ ChannelState.Idle
-  pub invites : (t : ℕ) → invites_taken t past ≡ finals_sent t past + owing t st
+  pub invites_balance : (t : ℕ) → invites_taken t past ≡ finals_sent t past + owing t st
   pub owing_one : (t : ℕ) → owing t st ≤ 1
-  pub talking : (d : ℕ) → is_unended d past ≡ true → 0 < sum_of (talks_call d) st.table
+  pub dialogue_goes_on : (d : ℕ) → is_unended d past ≡ true → 0 < sum_of (talks_call d) st.table
   pub linked : Everywhere (LinkedAt (last_dialogue past)) st.table
-  pub connects : (r : ℕ) → connects_sent r past + sum_of (may_connect r) st.table ≤ setups_taken r past
+  pub connects_were_asked : (r : ℕ) → connects_sent r past + sum_of (may_connect r) st.table ≤ setups_taken r past
   pub sound : Everywhere SoundAt st.table
   pub present : Everywhere PresentAt st.table
   pub exchange_queue : exchange_gone past ++ st.exchange ≡ exchange_sent past
@@ -56,10 +56,10 @@ inv_laws pool past st v =
       one_holder = λ c _. v.one c;
       seized_is_held = λ c i s. seized_held (pool c) (st.pool c) (holders c st) (v.one c) (v.shows c) i s;
       held_is_seized = λ c i o. held_seized (pool c) (st.pool c) (holders c st) (v.shows c) o;
-      invites_balance = v.invites;
+      invites_balance = v.invites_balance;
       one_owing = v.owing_one;
-      unended_is_held = λ d e. omega (arith, v.talking d e, sum_of_le (talks_call d) (λ k. one_if (holds_dialogue d k)) (talks_keeps d) st.table);
-      connects_were_asked = λ r. omega (arith, v.connects r);
+      unended_is_held = λ d e. omega (arith, v.dialogue_goes_on d e, sum_of_le (talks_call d) (λ k. one_if (holds_dialogue d k)) (talks_keeps d) st.table);
+      connects_were_asked = λ r. omega (arith, v.connects_were_asked r);
       calls_stand = stands_at st.table v.sound v.present;
       exchange_sent_in_order = v.exchange_queue;
       sip_sent_in_order = v.sip_queue;
@@ -160,15 +160,15 @@ module _ (pool : States) (past : List Happening) (st : State) (v : Inv pool past
 
   refused : (r : _) → Inv pool (happened st event (Refuse r) ∷ past) (applied st (Refuse r))
   refused r =
-      record { counts = λ c. omega (arith, v.counts c); one = v.one; shows = v.shows; free = v.free; invites = λ t. omega (arith, v.invites t); owing_one = v.owing_one; talking = v.talking; linked = v.linked; connects = λ x. omega (arith, v.connects x); sound = v.sound; present = v.present; exchange_queue = idles (exchange_gone past) st.exchange (exchange_sent past) v.exchange_queue; sip_queue = idles (sip_gone past) st.sip (sip_sent past) v.sip_queue }
+      record { counts = λ c. omega (arith, v.counts c); one = v.one; shows = v.shows; free = v.free; invites_balance = λ t. omega (arith, v.invites_balance t); owing_one = v.owing_one; dialogue_goes_on = v.dialogue_goes_on; linked = v.linked; connects_were_asked = λ x. omega (arith, v.connects_were_asked x); sound = v.sound; present = v.present; exchange_queue = idles (exchange_gone past) st.exchange (exchange_sent past) v.exchange_queue; sip_queue = idles (sip_gone past) st.sip (sip_sent past) v.sip_queue }
 
   took_exchange : Inv pool (happened st event TookExchange ∷ past) (applied st TookExchange)
   took_exchange =
-      record { counts = λ c. omega (arith, v.counts c); one = v.one; shows = v.shows; free = v.free; invites = λ t. omega (arith, v.invites t); owing_one = v.owing_one; talking = v.talking; linked = v.linked; connects = λ x. omega (arith, v.connects x); sound = v.sound; present = v.present; exchange_queue = takes (exchange_gone past) st.exchange (exchange_sent past) v.exchange_queue; sip_queue = idles (sip_gone past) st.sip (sip_sent past) v.sip_queue }
+      record { counts = λ c. omega (arith, v.counts c); one = v.one; shows = v.shows; free = v.free; invites_balance = λ t. omega (arith, v.invites_balance t); owing_one = v.owing_one; dialogue_goes_on = v.dialogue_goes_on; linked = v.linked; connects_were_asked = λ x. omega (arith, v.connects_were_asked x); sound = v.sound; present = v.present; exchange_queue = takes (exchange_gone past) st.exchange (exchange_sent past) v.exchange_queue; sip_queue = idles (sip_gone past) st.sip (sip_sent past) v.sip_queue }
 
   took_sip : Inv pool (happened st event TookSip ∷ past) (applied st TookSip)
   took_sip =
-      record { counts = λ c. omega (arith, v.counts c); one = v.one; shows = v.shows; free = v.free; invites = λ t. omega (arith, v.invites t); owing_one = v.owing_one; talking = v.talking; linked = v.linked; connects = λ x. omega (arith, v.connects x); sound = v.sound; present = v.present; exchange_queue = idles (exchange_gone past) st.exchange (exchange_sent past) v.exchange_queue; sip_queue = takes (sip_gone past) st.sip (sip_sent past) v.sip_queue }
+      record { counts = λ c. omega (arith, v.counts c); one = v.one; shows = v.shows; free = v.free; invites_balance = λ t. omega (arith, v.invites_balance t); owing_one = v.owing_one; dialogue_goes_on = v.dialogue_goes_on; linked = v.linked; connects_were_asked = λ x. omega (arith, v.connects_were_asked x); sound = v.sound; present = v.present; exchange_queue = idles (exchange_gone past) st.exchange (exchange_sent past) v.exchange_queue; sip_queue = takes (sip_gone past) st.sip (sip_sent past) v.sip_queue }
 
   abbrev last : ℕ → Option ℕ
   last = next ev (last_dialogue past)
@@ -177,11 +177,11 @@ module _ (pool : States) (past : List Happening) (st : State) (v : Inv pool past
     replied_talks : (d : ℕ) → is_unended d (happened st event (Reply ms ss) ∷ past) ≡ true → 0 < sum_of (talks_call d) st.table
     replied_talks d e =
         let w = ended_cases (bye_in d ss) (is_bye_on d ev) (is_ok_on d ev) (sends d last ss) (is_unended d past) e in
-        ⊎_elim (λ c. absurd (omega (arith, b.opening d c w.0))) (⊎_elim (λ s. absurd (omega (arith, b.sending last d tt s))) (v.talking d)) w.2
+        ⊎_elim (λ c. absurd (omega (arith, b.dialogue_opens d c w.0))) (⊎_elim (λ s. absurd (omega (arith, b.dialogue_opens_by_ours last d tt s))) (v.dialogue_goes_on d)) w.2
 
     replied : Inv pool (happened st event (Reply ms ss) ∷ past) (applied st (Reply ms ss))
     replied =
-        record { counts = λ c. omega (arith, v.counts c); one = v.one; shows = v.shows; free = v.free; invites = λ t. omega (arith, v.invites t, b.invites t); owing_one = v.owing_one; talking = replied_talks; linked = links ev (last_dialogue past) st.table f v.linked; connects = λ x. omega (arith, v.connects x, b.connects x); sound = v.sound; present = v.present; exchange_queue = puts (exchange_gone past) st.exchange (exchange_sent past) v.exchange_queue ms; sip_queue = puts (sip_gone past) st.sip (sip_sent past) v.sip_queue ss }
+        record { counts = λ c. omega (arith, v.counts c); one = v.one; shows = v.shows; free = v.free; invites_balance = λ t. omega (arith, v.invites_balance t, b.invites_balance t); owing_one = v.owing_one; dialogue_goes_on = replied_talks; linked = links ev (last_dialogue past) st.table f v.linked; connects_were_asked = λ x. omega (arith, v.connects_were_asked x, b.connects_were_asked x); sound = v.sound; present = v.present; exchange_queue = puts (exchange_gone past) st.exchange (exchange_sent past) v.exchange_queue ms; sip_queue = puts (sip_gone past) st.sip (sip_sent past) v.sip_queue ss }
 
   module _ (i : ℕ) (e : Effect) (f : Fresh st ev) (inside : i < length st.table) (b : Balanced st.pool (get_or st.table i None) ev e) where
     abbrev old : Option Call
@@ -194,7 +194,7 @@ module _ (pool : States) (past : List Happening) (st : State) (v : Inv pool past
     changed g = sum_of_set g st.table i e.after inside
 
     level : (c : ℕ) → named c e.seized + holders c st ≡ named c e.released + sum_of (holds c) after
-    level c = omega (arith, changed (holds c), b.channels c)
+    level c = omega (arith, changed (holds c), b.seizures_balance c)
 
     was_idle : (c : ℕ) → named c e.seized ≡ 1 → st.pool c ≡ ChannelState.Idle
     was_idle c h = idle_is (st.pool c) (b.idle c h)
@@ -204,7 +204,7 @@ module _ (pool : States) (past : List Happening) (st : State) (v : Inv pool past
 
     moved_owing : (t : ℕ) → sum_of (owes t) after ≤ 1
     moved_owing t =
-        ⊎_elim (λ z. omega (arith, z, v.owing_one t, changed (owes t), b.invites t)) (λ z. omega (arith, z, f t z, changed (owes t), b.invites t, sum_of_at (owes t) st.table i)) (none_or_one (invite_count t ev) (invite_count_le t ev))
+        ⊎_elim (λ z. omega (arith, z, v.owing_one t, changed (owes t), b.invites_balance t)) (λ z. omega (arith, z, f t z, changed (owes t), b.invites_balance t, sum_of_at (owes t) st.table i)) (none_or_one (invite_count t ev) (invite_count_le t ev))
 
     relinked : Everywhere (LinkedAt last) st.table
     relinked = links ev (last_dialogue past) st.table f v.linked
@@ -217,20 +217,20 @@ module _ (pool : States) (past : List Happening) (st : State) (v : Inv pool past
         let w = ended_cases (bye_in d e.sip) (is_bye_on d ev) (is_ok_on d ev) (sends d last e.sip) (is_unended d past) h in
         let step = changed (talks_call d) in
         let low = sum_of_at (talks_call d) st.table i in
-        ⊎_elim (λ c. omega (arith, b.opening d c w.0, step, low)) (⊎_elim (λ s. omega (arith, b.sending last d old_linked s, step, low)) (λ u. omega (arith, v.talking d u, b.talking d w.0 w.1, step))) w.2
+        ⊎_elim (λ c. omega (arith, b.dialogue_opens d c w.0, step, low)) (⊎_elim (λ s. omega (arith, b.dialogue_opens_by_ours last d old_linked s, step, low)) (λ u. omega (arith, v.dialogue_goes_on d u, b.dialogue_goes_on d w.0 w.1, step))) w.2
 
     moves : Inv pool (happened st event (Change i e) ∷ past) (applied st (Change i e))
     moves =
         record {
-          counts = λ c. omega (arith, v.counts c, changed (holds c), b.channels c);
+          counts = λ c. omega (arith, v.counts c, changed (holds c), b.seizures_balance c);
           one = moved_one;
           shows = λ c. freed_one (after_any e.seized st.pool) e.released c ∙ pool_shows (equals_some c e.seized) (equals_some c e.released) (st.pool c) (pool c) (holders c st) (sum_of (holds c) after) (level c) (was_idle c) (v.one c) (v.shows c) (v.free c) _ (taken_one st.pool e.seized c);
           free = λ c. pool_free (equals_some c e.seized) (equals_some c e.released) (st.pool c) (pool c) (holders c st) (sum_of (holds c) after) (level c) (was_idle c) (v.one c) (v.shows c) (v.free c);
-          invites = λ t. omega (arith, v.invites t, changed (owes t), b.invites t);
+          invites_balance = λ t. omega (arith, v.invites_balance t, changed (owes t), b.invites_balance t);
           owing_one = moved_owing;
-          talking = moved_talks;
+          dialogue_goes_on = moved_talks;
           linked = everywhere_set (LinkedAt last) st.table i e.after relinked (b.linked last (asked_now ev (last_dialogue past)) old_linked);
-          connects = λ x. omega (arith, v.connects x, changed (may_connect x), b.connects x);
+          connects_were_asked = λ x. omega (arith, v.connects_were_asked x, changed (may_connect x), b.connects_were_asked x);
           sound = everywhere_set SoundAt st.table i e.after v.sound b.sound;
           present = everywhere_set PresentAt st.table i e.after v.present b.present;
           exchange_queue = puts (exchange_gone past) st.exchange (exchange_sent past) v.exchange_queue e.exchange;
@@ -253,11 +253,11 @@ at_opening st o =
       one = λ c. omega (arith, no (holds c));
       shows = λ c. sym (cond-true (eqb (holders c st) 0) (st.pool c) ChannelState.Seized (eq-eqb (holders c st) 0 (no (holds c))));
       free = λ c h. absurd (omega (arith, no (holds c), h));
-      invites = λ t. omega (arith, no (owes t));
+      invites_balance = λ t. omega (arith, no (owes t));
       owing_one = λ t. omega (arith, no (owes t));
-      talking = λ d e. absurd (grind arith);
+      dialogue_goes_on = λ d e. absurd (grind arith);
       linked = subst (Everywhere (LinkedAt (last_dialogue []))) (sym o.calls) (everywhere_none (LinkedAt (last_dialogue [])) tt 64);
-      connects = λ r. omega (arith, no (may_connect r));
+      connects_were_asked = λ r. omega (arith, no (may_connect r));
       sound = subst (Everywhere SoundAt) (sym o.calls) (everywhere_none SoundAt refl 64);
       present = subst (Everywhere PresentAt) (sym o.calls) (everywhere_none PresentAt tt 64);
       exchange_queue = o.exchange;

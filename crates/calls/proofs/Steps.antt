@@ -39,19 +39,19 @@ fresh st ev u t e = absurd (omega (arith, u t, e))
 -- ---------------------------------------------------------------- answers without a call
 spoken_balanced : (pool : States) (ev : Brought) → Uninvited ev → Quiet ev → (ms : List (Message Digits)) → Mute ms → Balanced pool None ev (spoken ms [])
 spoken_balanced pool ev u q ms mute =
-    record { channels = λ c. refl; idle = λ c e. absurd (omega arith); invites = λ t. omega (arith, u t); connects = λ r. omega (arith, mute r); talking = λ d x y. omega arith; opening = λ d x y. absurd (let z = q d in grind arith); sending = λ last d x y. absurd (grind arith); linked = λ last x y. tt; sound = refl; present = tt }
+    record { seizures_balance = λ c. refl; idle = λ c e. absurd (omega arith); invites_balance = λ t. omega (arith, u t); connects_were_asked = λ r. omega (arith, mute r); dialogue_goes_on = λ d x y. omega arith; dialogue_opens = λ d x y. absurd (let z = q d in grind arith); dialogue_opens_by_ours = λ last d x y. absurd (grind arith); linked = λ last x y. tt; sound = refl; present = tt }
 
 answered_balanced : (pool : States) (t d s : ℕ) → Names.first_failure ≤ s → s ≤ Names.last_status → Balanced pool None (AnInvite t d) (spoken [] (SipMessage.Response t s ∷ []))
 answered_balanced pool t d s lo hi =
-    record { channels = λ c. refl; idle = λ c e. absurd (omega arith); invites = λ t. grind (arith, nat_tests); connects = λ r. omega arith; talking = λ d x y. omega arith; opening = λ d x y. absurd (grind arith); sending = λ last d x y. absurd (grind (arith, nat_tests)); linked = λ last x y. tt; sound = refl; present = tt }
+    record { seizures_balance = λ c. refl; idle = λ c e. absurd (omega arith); invites_balance = λ t. grind (arith, nat_tests); connects_were_asked = λ r. omega arith; dialogue_goes_on = λ d x y. omega arith; dialogue_opens = λ d x y. absurd (grind arith); dialogue_opens_by_ours = λ last d x y. absurd (grind (arith, nat_tests)); linked = λ last x y. tt; sound = refl; present = tt }
 
 declined_balanced : (pool : States) (n d : ℕ) → Balanced pool None (AnOk d) (spoken [] (ack_and_bye n d))
 declined_balanced pool n d =
-    record { channels = λ c. refl; idle = λ c e. absurd (omega arith); invites = λ t. refl; connects = λ r. omega arith; talking = λ d x y. omega arith; opening = λ d x y. absurd (grind (arith, nat_tests)); sending = λ last d x y. absurd (grind (arith, nat_tests)); linked = λ last x y. tt; sound = refl; present = tt }
+    record { seizures_balance = λ c. refl; idle = λ c e. absurd (omega arith); invites_balance = λ t. refl; connects_were_asked = λ r. omega arith; dialogue_goes_on = λ d x y. omega arith; dialogue_opens = λ d x y. absurd (grind (arith, nat_tests)); dialogue_opens_by_ours = λ last d x y. absurd (grind (arith, nat_tests)); linked = λ last x y. tt; sound = refl; present = tt }
 
 acked_balanced : (pool : States) (n d : ℕ) → Balanced pool None NoneOfThese (spoken [] (SipMessage.Ack n d ∷ []))
 acked_balanced pool n d =
-    record { channels = λ c. refl; idle = λ c e. absurd (omega arith); invites = λ t. refl; connects = λ r. omega arith; talking = λ d x y. omega arith; opening = λ d x y. absurd (grind arith); sending = λ last d x y. absurd (grind (arith, nat_tests)); linked = λ last x y. tt; sound = refl; present = tt }
+    record { seizures_balance = λ c. refl; idle = λ c e. absurd (omega arith); invites_balance = λ t. refl; connects_were_asked = λ r. omega arith; dialogue_goes_on = λ d x y. omega arith; dialogue_opens = λ d x y. absurd (grind arith); dialogue_opens_by_ours = λ last d x y. absurd (grind (arith, nat_tests)); linked = λ last x y. tt; sound = refl; present = tt }
 
 -- ---------------------------------------------------------------- new calls
 picked : (pool : States) (c : ℕ) → idle (pool c) ≡ true → (x : ℕ) → named x (Some c) ≡ 1 → idle (pool x) ≡ true
@@ -64,18 +64,18 @@ Brings ev m = (r : ℕ) → setup_count r ev ≡ one_if (eqb m.reference.number 
 module _ (pool : States) (ev : Brought) (u : Uninvited ev) (q : Quiet ev) (m : Message DigitsPart) (b : Brings ev m) (n c : ℕ) (i : idle (pool c) ≡ true) where
   proceeding_balanced : Balanced pool None ev (begins_proceeding m n c)
   proceeding_balanced =
-      record { channels = λ x. grind (arith, nat_tests); idle = picked pool c i; invites = λ t. omega (arith, u t); connects = λ r. (let z = b r in grind (arith, nat_tests)); talking = λ d x y. omega arith; opening = λ d x y. absurd (let z = q d in grind arith); sending = λ last d x y. absurd (grind (arith, nat_tests)); linked = λ last x y. tt; sound = refl; present = refl }
+      record { seizures_balance = λ x. grind (arith, nat_tests); idle = picked pool c i; invites_balance = λ t. omega (arith, u t); connects_were_asked = λ r. (let z = b r in grind (arith, nat_tests)); dialogue_goes_on = λ d x y. omega arith; dialogue_opens = λ d x y. absurd (let z = q d in grind arith); dialogue_opens_by_ours = λ last d x y. absurd (grind (arith, nat_tests)); linked = λ last x y. tt; sound = refl; present = refl }
 
   collecting_balanced : Balanced pool None ev (begins_collecting m n c)
   collecting_balanced =
-      record { channels = λ x. grind (arith, nat_tests); idle = picked pool c i; invites = λ t. omega (arith, u t); connects = λ r. (let z = b r in grind (arith, nat_tests)); talking = λ d x y. omega arith; opening = λ d x y. absurd (let z = q d in grind arith); sending = λ last d x y. absurd (grind (arith, nat_tests)); linked = λ last x y. tt; sound = refl; present = refl }
+      record { seizures_balance = λ x. grind (arith, nat_tests); idle = picked pool c i; invites_balance = λ t. omega (arith, u t); connects_were_asked = λ r. (let z = b r in grind (arith, nat_tests)); dialogue_goes_on = λ d x y. omega arith; dialogue_opens = λ d x y. absurd (let z = q d in grind arith); dialogue_opens_by_ours = λ last d x y. absurd (grind (arith, nat_tests)); linked = λ last x y. tt; sound = refl; present = refl }
 
   begins_balanced : (full : ℕ) → Balanced pool None ev (begins full m n c)
   begins_balanced full = cond_both (is_whole full m.elements.complete (length (called_digits m))) _ _ (Balanced pool None ev) (λ _. proceeding_balanced) (λ _. collecting_balanced)
 
 invited_balanced : (pool : States) (t d : ℕ) (xs : List ℕ) (c : ℕ) → idle (pool c) ≡ true → Balanced pool None (AnInvite t d) (invited t d xs c)
 invited_balanced pool t d xs c i =
-    record { channels = λ x. grind (arith, nat_tests); idle = picked pool c i; invites = λ t. grind (arith, nat_tests); connects = λ r. grind (arith, nat_tests); talking = λ d x y. omega arith; opening = λ d x y. absurd (grind arith); sending = λ last d x y. absurd (grind (arith, nat_tests)); linked = λ last x y. x; sound = refl; present = refl }
+    record { seizures_balance = λ x. grind (arith, nat_tests); idle = picked pool c i; invites_balance = λ t. grind (arith, nat_tests); connects_were_asked = λ r. grind (arith, nat_tests); dialogue_goes_on = λ d x y. omega arith; dialogue_opens = λ d x y. absurd (grind arith); dialogue_opens_by_ours = λ last d x y. absurd (grind (arith, nat_tests)); linked = λ last x y. x; sound = refl; present = refl }
 
 -- ---------------------------------------------------------------- the steps
 abbrev Free : State → ℕ → Type 0

@@ -3,10 +3,15 @@ use Rattle.std.specs.Prelude.{◌≡◌, ℕ, true, false, ◌||◌, List, [], �
 use Rattle.calls.specs.Records.{MessageType, Message, Answer, Timer, SipMessage, Digits}
 use Rattle.messages.specs.Laws.{setup417_octets, LayoutExamples}
 use Rattle.causes.specs.Examples.{CauseExamples}
+use Rattle.causes.specs.Names
 use Rattle.pools.specs.declared.channel.ChannelState.TheVariants.{Unknown, Idle, Seized}
 use Rattle.pools.specs.States.{States}
 use Rattle.calls.specs.Effects.{recorded, exclusively}
 use Rattle.calls.specs.Rules.{Event, Exchange, Invite, Response, TakeExchange, TakeSip, State, Stepping}
+
+-- 200 to the first INVITE, on this dialogue
+abbrev pub answered_on : ℕ → Event
+answered_on d = Response 1 Names.ok d false
 
 -- events with these answers lead from a state to one of which something holds
 pub record Leads (start : State) (events : List Event) (answers : List Answer) (holds : State → Type 0) : Type 0 where
@@ -63,7 +68,7 @@ sip_takes m = Answer.Sip (Some m)
 abbrev pub AnsweredAfterCancel : Type 0
 AnsweredAfterCancel =
     Leads (opened seven_and_nine)
-    (Exchange setup417_octets ∷ Exchange disconnect ∷ Response 1 200 70 false ∷ TakeExchange ∷ TakeExchange ∷ TakeExchange ∷ TakeSip ∷ TakeSip ∷ TakeSip ∷ TakeSip ∷ TakeSip ∷ [])
+    (Exchange setup417_octets ∷ Exchange disconnect ∷ answered_on 70 ∷ TakeExchange ∷ TakeExchange ∷ TakeExchange ∷ TakeSip ∷ TakeSip ∷ TakeSip ∷ TakeSip ∷ TakeSip ∷ [])
     (report (Some 7) None None
     ∷ Answer.Step (Ok (record { seized = None; released = None; timer = Some Timer.T308; cancelling = true }))
     ∷ report None None None
@@ -76,7 +81,7 @@ AnsweredAfterCancel =
 abbrev pub AnsweredTwice : Type 0
 AnsweredTwice =
     Leads (opened seven_and_nine)
-    (Exchange setup417_octets ∷ Response 1 200 70 false ∷ Response 1 200 71 false ∷ TakeExchange ∷ TakeExchange ∷ TakeExchange ∷ TakeSip ∷ TakeSip ∷ TakeSip ∷ TakeSip ∷ TakeSip ∷ [])
+    (Exchange setup417_octets ∷ answered_on 70 ∷ answered_on 71 ∷ TakeExchange ∷ TakeExchange ∷ TakeExchange ∷ TakeSip ∷ TakeSip ∷ TakeSip ∷ TakeSip ∷ TakeSip ∷ [])
     (report (Some 7) None None
     ∷ report None None (Some Timer.T313)
     ∷ report None None None

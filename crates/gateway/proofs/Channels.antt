@@ -50,7 +50,7 @@ unseized (Some x) h = absurd (h x (let e = same x in grind (arith, nat_tests)))
 pub possible : (st : State) → length st.table ≡ 64 → ((c : ℕ) → idle (st.pool c) ≡ false) → (ev : Brought) (o : Outcome) → Lawful st ev o → Possible st.table o
 possible st len busy ev (Change i e) l =
     let none = unseized e.seized (λ c h. (let w = l.2.idle c h in let b = busy c in grind (arith, nat_tests))) in
-    (ready_kept st.table i e len l.1 l.2.channels none l.2.sound, none)
+    (ready_kept st.table i e len l.1 l.2.seizures_balance none l.2.sound, none)
 possible st len busy ev (Refuse r) l = tt
 possible st len busy ev (Reply ms ss) l = tt
 possible st len busy ev TookExchange l = tt

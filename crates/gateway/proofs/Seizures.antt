@@ -30,7 +30,7 @@ module _ (st : State) (len : length st.table ≡ 64) (sound : is_sound st.table 
   placed : (pool : States) (e : Effect) → Balanced pool (Some k) NoneOfThese e → e.seized ≡ None → Ready st.table i e.after e.released None
   placed pool e b none =
       let z = subst (λ (o : Option Call). Balanced pool o NoneOfThese e) (sym here) b in
-      ready_kept st.table i e len (omega (arith, len, inside)) z.channels none z.sound
+      ready_kept st.table i e len (omega (arith, len, inside)) z.seizures_balance none z.sound
 
   again_some : (t : Token) → SoundAt (tries_again (Some t.channel) k).after → is_over k.exchange ≡ false → Ready st.table i (tries_again (Some t.channel) k).after (tries_again (Some t.channel) k).released (Some t)
   again_some t s live =
