@@ -8,7 +8,7 @@ use Rattle.std.specs.Fn.{Called}
 use denote.Param.Members.{Mut}
 use Rattle.calls.specs.declared.record.Call.{Call}
 use Rattle.calls.specs.declared.record.Found.{Found}
-use Rattle.calls.specs.Rules.{seek, seek_here, later}
+use Rattle.calls.specs.Rules.{seek, later}
 use Rattle.calls.proofs.Places.{Misses, Finds, seek_tells}
 use Rattle.call_table.specs.Keys.{Within}
 

@@ -1,8 +1,8 @@
 -- The 64 places of the table of calls: the channels that they hold, and how tokens go in and out.
-use Rattle.std.specs.Prelude.{◌≡◌, ℕ, Bool, true, false, if◌then◌else◌, not, ◌&&◌, List, is_some, is_none, Some, None, Ok, Err, Option, Result, ◌==◌, nat_lt, slice_index_or, slice_set}
+use Rattle.std.specs.Prelude.{◌≡◌, ℕ, Bool, if◌then◌else◌, ◌&&◌, List, is_some, is_none, Some, None, Ok, Err, Option, Result, nat_lt, slice_index_or, slice_set}
 use Rattle.std.specs.Option.{option_and_then}
 use Rattle.calls.specs.declared.record.Call.{Call}
-use Rattle.calls.specs.Sides.{is_over, held_channel}
+use Rattle.calls.specs.Sides.{held_channel, equals_some}
 use Rattle.call_table.specs.Tokens.{token_of}
 use Rattle.call_table.specs.declared.token.Token.{Token}
 
@@ -21,7 +21,7 @@ is_free places place = nat_lt place 64 && is_none (slice_index_or places place N
 
 -- the call holds channel c
 abbrev pub is_holding : ℕ → Call → Bool
-is_holding c call = not (is_over call.exchange) && call.channel == c
+is_holding c call = equals_some c (held_channel call)
 
 -- a call is entered at a free place, with the token of the channel that it holds
 abbrev pub admits : List (Option Call) → ℕ → Call → ℕ → Bool

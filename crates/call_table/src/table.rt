@@ -9,7 +9,7 @@ use crate::token::Token;
 use call_states::is_over;
 use calls::{Call, Found};
 
-fn held_channel(slot: Option<Call>) -> Option<u8>
+fn holding(slot: Option<Call>) -> Option<u8>
     ensures answers_the_channel_held { result ≡ holding slot }
 {
     let call = slot?;
@@ -67,7 +67,7 @@ impl Table {
     pub fn holds(&self, place: usize) -> Option<u8>
         ensures answers_the_channel_held { result ≡ held self.now.places place }
     {
-        held_channel(self.call_at(place))
+        holding(self.call_at(place))
     }
 
     /// Enters a call at a free place, with the token of the channel that it holds; else the token is handed back.
@@ -102,7 +102,7 @@ impl Table {
         // Stays a match: with no `Drop`, a token is spent only by taking it apart.
         let goes_on = match token {
             Some(Token { channel: _ }) => false,
-            None => held_channel(after).is_some(),
+            None => holding(after).is_some(),
         };
         if goes_on {
             return None;

@@ -1,6 +1,6 @@
 ghost use Rattle.std.specs.Prelude.{◌≡◌, ℕ};
 ghost use Rattle.pools.specs.States.{idle, seized, after_any, after_release, AnyWasIdle};
-ghost use Rattle.call_table.specs.Tokens.{token_channel, granted};
+ghost use Rattle.call_table.specs.Tokens.{token_channel, granted_channel};
 ghost use Rattle.call_table.specs.Wishes.{WishGets, WasIdle};
 
 use crate::token::Token;
@@ -37,7 +37,7 @@ impl<P: Pool> Trunk<P> {
 
     /// A token of channel `c`, if it is idle.
     pub fn seize(&mut self, c: u8) -> Option<Token>
-        ensures granted_exactly_if_idle { token_channel result ≡ granted (idle (P.Pool.state self.old.pool c)) c }
+        ensures granted_exactly_if_idle { token_channel result ≡ granted_channel (idle (P.Pool.state self.old.pool c)) c }
         ensures grant_seizes_it_alone { (k : ℕ) → P.Pool.state self.new.pool k ≡ after_any (token_channel result) (P.Pool.state self.old.pool) k }
     {
         self.pool.seize(c).then(|| Token { channel: c })

@@ -5,11 +5,11 @@ use Rattle.messages.proofs.RoundTrip.{layout_examples}
 use Rattle.pools.specs.declared.channel.ChannelState.TheVariants.{Unknown, Idle, Seized}
 use Rattle.pools.specs.States.{idle}
 use Rattle.calls.specs.Records.{Answer}
-use Rattle.calls.specs.Rules.{Event, Exchange, Invite, TakeExchange, TakeSip, State, Choice, Fair, outcome, applied, answer_of, Stepping, no_step, next_step}
+use Rattle.calls.specs.Rules.{Event, Exchange, Invite, TakeExchange, TakeSip, State, Choice, Fair, outcome, settled, answer_of, Stepping, no_step, next_step}
 use Rattle.calls.specs.Examples.{answered_on, opened, seven_and_nine, seven_alone, digits, disconnect, unavailable, AnsweredAfterCancel, AnsweredTwice, TriedOnAnother, TriedInVain, Collisions, Examples}
 
 -- one event more
-then : {entry st : State} {evs : List Event} {ans : List Answer} → Stepping entry evs ans st → (ch : Choice) (ev : Event) → Fair st ch → Stepping entry (evs ++ ev ∷ []) (ans ++ answer_of st (outcome st ch ev) ∷ []) (applied st (outcome st ch ev))
+then : {entry st : State} {evs : List Event} {ans : List Answer} → Stepping entry evs ans st → (ch : Choice) (ev : Event) → Fair st ch → Stepping entry (evs ++ ev ∷ []) (ans ++ answer_of st (outcome st ch ev) ∷ []) (settled st (outcome st ch ev))
 then {entry} {st} s ch ev fair = next_step ev (answer_of st (outcome st ch ev)) s (record { choice = ch; fair = fair; answer = refl; after = refl })
 
 -- channel c is picked, or none, and place i

@@ -3,15 +3,15 @@ use Rattle.std.proofs.Common.{◌≡◌, ℕ, List, [], ◌∷◌, ◌++◌, map
 use mathlib.Core.List.{reverse-cons}
 use Rattle.std.proofs.lemmas.List.{map-append}
 use Rattle.calls.specs.Records.{Answer}
-use Rattle.calls.specs.Rules.{Event, State, Stepped, Stepping, no_step, next_step, outcome, applied}
-use Rattle.calls.specs.Run.{Happening, happened, Run, opened, stepped, Tells}
+use Rattle.calls.specs.Rules.{Event, State, Stepped, Stepping, no_step, next_step, outcome, settled}
+use Rattle.calls.specs.Run.{Happening, happened, Run, opened, stepped, HistoryOf}
 use Rattle.calls.specs.Laws.{RunLaw, RunsOn, RunsCompose}
 use Rattle.calls.proofs.Runs.{run_laws}
 
 -- the events met so far and what came of each
 pub record Ran (entry : State) (events : List Event) (answers : List Answer) (st : State) : Type 0 where
   pub more : List Happening
-  pub told : Tells more events answers
+  pub told : HistoryOf more events answers
   pub run : Run entry more st
 
 pub ran_none : (entry : State) → Ran entry [] [] entry
@@ -61,7 +61,7 @@ cut start opened (x ∷ later) earlier e = absurd (no_cons x (later ++ earlier) 
 cut start (stepped {past = past} {st = st} ch ev fair r) [] earlier e = whole earlier (stepped ch ev fair r) e
 cut start (stepped {past = past} {st = st} ch ev fair r) (x ∷ later) earlier e =
     let c = cut start r later earlier (tail_eq x (happened st ev (outcome st ch ev)) (later ++ earlier) past e) in
-    let end = applied st (outcome st ch ev) in
+    let end = settled st (outcome st ch ev) in
     record {
       state = c.state;
       came = c.came;

@@ -50,11 +50,11 @@ module _ (pool : States) (ev : Brought) (u : Uninvited ev) (q : Quiet ev) (k : C
 
   -- while digits are collected
   module _ (one : stage k.exchange ≡ 1) where
-    spurned_fits : (v : Cause) → sides_agree (clears_exchange k v).side k.sip ≡ true
-    spurned_fits v = grind (arith, nat_tests)
+    spurned_agree : (v : Cause) → sides_agree (clears_exchange k v).side k.sip ≡ true
+    spurned_agree v = grind (arith, nat_tests)
 
     spurned : (ds : Digits) → Balanced pool (Some k) ev (spurns k ds)
-    spurned ds = plainly ds _ _ (cleared_seizes_none _) (clears_law k _) (keeps_law ev q k.sip) (spurned_fits _)
+    spurned ds = plainly ds _ _ (cleared_seizes_none _) (clears_law k _) (keeps_law ev q k.sip) (spurned_agree _)
 
     no_sip : sip_stage k.sip ≡ 0
     no_sip = grind (arith, nat_tests)
@@ -62,24 +62,24 @@ module _ (pool : States) (ev : Brought) (u : Uninvited ev) (q : Quiet ev) (k : C
     proceed_law : ExchangeLaw k (enters k ExchangeSide.Proceeding (tell MessageType.CallProceeding k ∷ []))
     proceed_law = record { seizures_balance = λ c. grind (arith, nat_tests); connects_were_asked = λ r. grind (arith, nat_tests) }
 
-    invited_fits : (origin : Origin) (ds : Digits) → sides_agree ExchangeSide.Proceeding (invites origin ds).side ≡ true
-    invited_fits (Origin.Exchange n) ds = refl
-    invited_fits Origin.Sip ds = refl
+    invited_agree : (origin : Origin) (ds : Digits) → sides_agree ExchangeSide.Proceeding (invites origin ds).side ≡ true
+    invited_agree (Origin.Exchange n) ds = refl
+    invited_agree Origin.Sip ds = refl
 
     proceeding : (ds : Digits) → Balanced pool (Some k) ev (proceeds k ds)
-    proceeding ds = plainly ds _ _ refl proceed_law (invites_sip ev q k.origin ds k.sip no_sip) (invited_fits k.origin ds)
+    proceeding ds = plainly ds _ _ refl proceed_law (invites_sip ev q k.origin ds k.sip no_sip) (invited_agree k.origin ds)
 
     collect_law : ExchangeLaw k (enters k ExchangeSide.Collecting [])
     collect_law = record { seizures_balance = λ c. grind (arith, nat_tests); connects_were_asked = λ r. grind (arith, nat_tests) }
 
-    collect_fits : sides_agree ExchangeSide.Collecting k.sip ≡ true
-    collect_fits = let z = no_sip in grind (arith, nat_tests)
+    collect_agree : sides_agree ExchangeSide.Collecting k.sip ≡ true
+    collect_agree = let z = no_sip in grind (arith, nat_tests)
 
     dialling : (full : ℕ) (complete : Bool) (ds : Digits) → Balanced pool (Some k) ev (dials full complete k ds)
     dialling full complete ds =
         cond_both (is_empty_whole complete ds.count) _ _ (Balanced pool (Some k) ev) (λ _. spurned ds)
         (λ _. cond_both (is_whole full complete ds.count) _ _ (Balanced pool (Some k) ev) (λ _. proceeding ds)
-        (λ _. plainly ds _ _ refl collect_law (keeps_law ev q k.sip) collect_fits))
+        (λ _. plainly ds _ _ refl collect_law (keeps_law ev q k.sip) collect_agree))
 
     collecting : (full : ℕ) (complete : Bool) (o : Option Digits) → Balanced pool (Some k) ev (collects full complete k o)
     collecting full complete None = spurned k.digits
@@ -90,44 +90,44 @@ module _ (pool : States) (ev : Brought) (u : Uninvited ev) (q : Quiet ev) (k : C
   only_keeps b e h = cond_both b _ _ (Keeps pool k ev) h (λ _. tt)
 
   module _ (live : is_over k.exchange ≡ false) where
-    past_fits : (l : ExchangeSide) → 2 < stage l → (sip_stage k.sip ≡ 1 → ⊥) → sides_agree l k.sip ≡ true
-    past_fits l h n = grind (arith, nat_tests)
+    past_agree : (l : ExchangeSide) → 2 < stage l → (sip_stage k.sip ≡ 1 → ⊥) → sides_agree l k.sip ≡ true
+    past_agree l h n = grind (arith, nat_tests)
 
-    over_fits : (sip_stage k.sip ≡ 1 → ⊥) → sides_agree ExchangeSide.Over k.sip ≡ true
-    over_fits n = grind (arith, nat_tests)
+    over_agree : (sip_stage k.sip ≡ 1 → ⊥) → sides_agree ExchangeSide.Over k.sip ≡ true
+    over_agree n = grind (arith, nat_tests)
 
     -- an INVITE is out only while the call proceeds
     no_invite : 2 < stage k.exchange → sip_stage k.sip ≡ 1 → ⊥
     no_invite h z = grind (arith, nat_tests)
 
-    cleared_fits : (l : ExchangeSide) (s : ℕ) → (stage l ≡ 1 → ⊥) → sides_agree l (clears_sip k s).side ≡ true
-    cleared_fits l s h = grind (arith, nat_tests)
+    cleared_agree : (l : ExchangeSide) (s : ℕ) → (stage l ≡ 1 → ⊥) → sides_agree l (clears_sip k s).side ≡ true
+    cleared_agree l s h = grind (arith, nat_tests)
 
-    answered_fits : (b : SipMove) → b ≡ answers k.sip → (sip_stage k.sip ≡ 1 → ⊥) → sides_agree ExchangeSide.Up b.side ≡ true
-    answered_fits b e n = grind (arith, nat_tests)
+    answered_agree : (b : SipMove) → b ≡ answers k.sip → (sip_stage k.sip ≡ 1 → ⊥) → sides_agree ExchangeSide.Up b.side ≡ true
+    answered_agree b e n = grind (arith, nat_tests)
 
-    responded_fits : (l : ExchangeSide) (s : ℕ) → 2 < stage l → (sip_stage k.sip ≡ 1 → ⊥) → sides_agree l (responds s k.sip).side ≡ true
-    responded_fits l s h n = grind (arith, nat_tests)
+    responded_agree : (l : ExchangeSide) (s : ℕ) → 2 < stage l → (sip_stage k.sip ≡ 1 → ⊥) → sides_agree l (responds s k.sip).side ≡ true
+    responded_agree l s h n = grind (arith, nat_tests)
 
-    responded_stays_fits : (s : ℕ) → sides_agree k.exchange (responds s k.sip).side ≡ true
-    responded_stays_fits s = grind (arith, nat_tests)
+    responded_stays_agree : (s : ℕ) → sides_agree k.exchange (responds s k.sip).side ≡ true
+    responded_stays_agree s = grind (arith, nat_tests)
 
     -- the call goes on, past its proceeding, and SIP hears nothing
     goes_on : (l : ExchangeSide) (ms : List (Message Digits)) → Mute ms → 2 < stage l → 2 < stage k.exchange → Balanced pool (Some k) ev (moved k (enters k l ms) (keeps k))
-    goes_on l ms mute h n = plainly k.digits _ _ refl (enters_law k l ms mute live h) (keeps_law ev q k.sip) (past_fits l h (no_invite n))
+    goes_on l ms mute h n = plainly k.digits _ _ refl (enters_law k l ms mute live h) (keeps_law ev q k.sip) (past_agree l h (no_invite n))
 
     -- the exchange side ends, and SIP is cleared
     ends_clear : (ms : List (Message Digits)) (s : ℕ) → Mute ms → Names.first_failure ≤ s → s ≤ Names.last_status → Balanced pool (Some k) ev (moved k (ends k ms) (clears_sip k s))
-    ends_clear ms s mute lo hi = plainly k.digits _ _ refl (ends_law k ms mute live) (clears_sip_lem ev q k.origin s lo hi k.sip) (cleared_fits ExchangeSide.Over s (λ e. omega arith))
+    ends_clear ms s mute lo hi = plainly k.digits _ _ refl (ends_law k ms mute live) (clears_sip_lem ev q k.origin s lo hi k.sip) (cleared_agree ExchangeSide.Over s (λ e. omega arith))
 
     ends_keep : 2 < stage k.exchange → Balanced pool (Some k) ev (moved k (ends k []) (keeps k))
-    ends_keep n = plainly k.digits _ _ refl (ends_law k [] (λ r. refl) live) (keeps_law ev q k.sip) (over_fits (no_invite n))
+    ends_keep n = plainly k.digits _ _ refl (ends_law k [] (λ r. refl) live) (keeps_law ev q k.sip) (over_agree (no_invite n))
 
     pub tries_again_lem : (pick : Option ℕ) → AnyWasIdle pick pool → 2 < stage k.exchange → Balanced pool (Some k) ev (tries_again pick k)
     tries_again_lem None i n = ends_clear [] _ (λ r. refl) (omega arith) (omega arith)
     tries_again_lem (Some c) i n =
         moved_balanced pool ev u k k.digits (retries k c) (keeps k) (retries_law k c live) (keeps_law ev q k.sip)
-        (λ x e. let z : x ≡ c = grind (arith, nat_tests) in ap (λ y. idle (pool y)) z ∙ i) (past_fits ExchangeSide.SetupSent (omega arith) (no_invite n))
+        (λ x e. let z : x ≡ c = grind (arith, nat_tests) in ap (λ y. idle (pool y)) z ∙ i) (past_agree ExchangeSide.SetupSent (omega arith) (no_invite n))
 
     past_release : is_unreleased k.exchange ≡ false → 2 < stage k.exchange
     past_release e = grind (arith, nat_tests)
@@ -140,18 +140,18 @@ module _ (pool : States) (ev : Brought) (u : Uninvited ev) (q : Quiet ev) (k : C
     pub on_type_lem : (full : ℕ) (pick : Option ℕ) → AnyWasIdle pick pool → (m : Message DigitsPart) (kind : MessageType) → Keeps pool k ev (on_type full pick m k kind)
     on_type_lem full pick i m MessageType.Alerting =
         only_keeps _ _ (λ e. (let n : sip_stage k.sip ≡ 1 → ⊥ = no_invite (grind (arith, nat_tests)) in
-        plainly k.digits _ _ refl (enters_law k ExchangeSide.Ringing _ (λ r. refl) live (omega arith)) (tells_sip ev q _ (omega arith) k.sip) (responded_fits ExchangeSide.Ringing _ (omega arith) n)))
+        plainly k.digits _ _ refl (enters_law k ExchangeSide.Ringing _ (λ r. refl) live (omega arith)) (tells_sip ev q _ (omega arith) k.sip) (responded_agree ExchangeSide.Ringing _ (omega arith) n)))
     on_type_lem full pick i m MessageType.CallProceeding = only_keeps _ _ (λ e. goes_on ExchangeSide.ProceedingOutwards _ (λ r. refl) (omega arith) (grind (arith, nat_tests)))
-    on_type_lem full pick i m MessageType.Progress = only_keeps _ _ (λ e. plainly k.digits _ _ refl (stays_law k _ (λ r. refl)) (tells_sip ev q _ (omega arith) k.sip) (responded_stays_fits _))
+    on_type_lem full pick i m MessageType.Progress = only_keeps _ _ (λ e. plainly k.digits _ _ refl (stays_law k _ (λ r. refl)) (tells_sip ev q _ (omega arith) k.sip) (responded_stays_agree _))
     on_type_lem full pick i m MessageType.Setup = tt
     on_type_lem full pick i m MessageType.Connect =
         only_keeps _ _ (λ e. (let n : sip_stage k.sip ≡ 1 → ⊥ = no_invite (grind (arith, nat_tests)) in
-        plainly k.digits _ _ refl (enters_law k ExchangeSide.Up _ (λ r. refl) live (omega arith)) (answers_sip ev q k.sip) (answered_fits (answers k.sip) refl n)))
+        plainly k.digits _ _ refl (enters_law k ExchangeSide.Up _ (λ r. refl) live (omega arith)) (answers_sip ev q k.sip) (answered_agree (answers k.sip) refl n)))
     on_type_lem full pick i m MessageType.SetupAcknowledge = tt
     on_type_lem full pick i m MessageType.ConnectAcknowledge = only_keeps _ _ (λ e. goes_on ExchangeSide.Up _ (λ r. refl) (omega arith) (grind (arith, nat_tests)))
     on_type_lem full pick i m MessageType.Disconnect =
         let final = status_final m.elements.cause in
-        only_keeps _ _ (λ e. plainly k.digits _ _ refl (enters_law k (ExchangeSide.ReleaseSent None false) _ (λ r. refl) live (omega arith)) (clears_sip_lem ev q k.origin _ final.0 final.1 k.sip) (cleared_fits (ExchangeSide.ReleaseSent None false) _ (λ e. omega arith)))
+        only_keeps _ _ (λ e. plainly k.digits _ _ refl (enters_law k (ExchangeSide.ReleaseSent None false) _ (λ r. refl) live (omega arith)) (clears_sip_lem ev q k.origin _ final.0 final.1 k.sip) (cleared_agree (ExchangeSide.ReleaseSent None false) _ (λ e. omega arith)))
     on_type_lem full pick i m MessageType.Release =
         let final = status_final m.elements.cause in
         cond_both (is_unreleased k.exchange) _ _ (Balanced pool (Some k) ev) (λ _. ends_clear _ _ (λ r. refl) final.0 final.1) (λ e. ends_keep (past_release e))
@@ -180,12 +180,12 @@ module _ (pool : States) (ev : Brought) (u : Uninvited ev) (q : Quiet ev) (k : C
         cond_both (is_running t k.exchange) _ _ (Keeps pool k ev)
         (λ e. subst (λ (o : Option Timer). Balanced pool (Some k) ev (expired k o)) (running_timer t (timer_of k.exchange) e) (on_expired k.exchange refl)) (λ _. tt)
 
-  off_fits : (l : ExchangeSide) → sides_agree l SipSide.None ≡ true
-  off_fits l = grind (arith, nat_tests)
+  off_agree : (l : ExchangeSide) → sides_agree l SipSide.None ≡ true
+  off_agree l = grind (arith, nat_tests)
 
   -- the SIP side is over where a response was awaited
   off : (a : ExchangeMove) → a.seized ≡ None → ExchangeLaw k a → (sip_stage k.sip ≡ 2 → ⊥) → (sip_stage k.sip ≡ 3 → ⊥) → Balanced pool (Some k) ev (moved k a (becomes SipSide.None []))
-  off a e la n2 n3 = plainly k.digits a (becomes SipSide.None []) e la (offs_sip ev q k.sip n2 n3) (off_fits a.side)
+  off a e la n2 n3 = plainly k.digits a (becomes SipSide.None []) e la (offs_sip ev q k.sip n2 n3) (off_agree a.side)
 
   pub on_cancel_expiry_lem : Keeps pool k ev (on_cancel_expiry k)
   on_cancel_expiry_lem =
@@ -206,11 +206,11 @@ module _ (pool : States) (ev : Brought) (u : Uninvited ev) (q : Quiet ev) (k : C
   retold_sip x y e =
       record { invites_balance = λ t. grind (arith, nat_tests); dialogue_goes_on = λ d a b. grind (arith, nat_tests); dialogue_opens = λ d e a. let z = q d in grind (arith, nat_tests); dialogue_opens_by_ours = λ last d l e. grind (arith, nat_tests); linked = λ last l. tt }
 
-  retold_fits : (x y : Told) → k.sip ≡ SipSide.InviteSent x → sides_agree k.exchange (SipSide.InviteSent y) ≡ true
-  retold_fits x y e = grind (arith, nat_tests)
+  retold_agree : (x y : Told) → k.sip ≡ SipSide.InviteSent x → sides_agree k.exchange (SipSide.InviteSent y) ≡ true
+  retold_agree x y e = grind (arith, nat_tests)
 
   retells : (x y : Told) (m : Message Digits) → Mute (m ∷ []) → k.sip ≡ SipSide.InviteSent x → Balanced pool (Some k) ev (announces k m y)
-  retells x y m mute e = plainly k.digits _ _ refl (stays_law k (m ∷ []) mute) (retold_sip x y e) (retold_fits x y e)
+  retells x y m mute e = plainly k.digits _ _ refl (stays_law k (m ∷ []) mute) (retold_sip x y e) (retold_agree x y e)
 
   on_news : (x : Told) (media : Bool) (news : Option News) → k.sip ≡ SipSide.InviteSent x → Balanced pool (Some k) ev (tells k media x news)
   on_news x media None e = still
@@ -230,13 +230,13 @@ module _ (pool : States) (k : Call) (sound : sides_agree k.exchange k.sip ≡ tr
   unseized_clears : (v : Cause) (c : ℕ) → named c (clears_exchange k v).seized ≡ 1 → idle (pool c) ≡ true
   unseized_clears v c e = absurd (grind (arith, nat_tests))
 
-  left_fits : (v : Cause) → (sip_stage k.sip ≡ 2) ⊎ (sip_stage k.sip ≡ 3) → sides_agree (clears_exchange k v).side (leaves_sip k.sip).side ≡ true
-  left_fits v h = grind (arith, nat_tests)
+  left_agree : (v : Cause) → (sip_stage k.sip ≡ 2) ⊎ (sip_stage k.sip ≡ 3) → sides_agree (clears_exchange k v).side (leaves_sip k.sip).side ≡ true
+  left_agree v h = grind (arith, nat_tests)
 
   pub on_cancel : (t : ℕ) → is_unanswered t k.sip ≡ true → Balanced pool (Some k) NoneOfThese (leaves k)
   on_cancel t h =
       let two : sip_stage k.sip ≡ 2 = grind (arith, nat_tests) in
-      moved_balanced pool NoneOfThese (λ t. refl) k k.digits _ _ (clears_law k _) (cancels_sip t k.sip h) (unseized_clears _) (left_fits _ (inl two))
+      moved_balanced pool NoneOfThese (λ t. refl) k k.digits _ _ (clears_law k _) (cancels_sip t k.sip h) (unseized_clears _) (left_agree _ (inl two))
 
   held_stage : (d : ℕ) (g : SipSide) → is_held_by d g ≡ true → (sip_stage g ≡ 2) ⊎ (sip_stage g ≡ 3)
   held_stage d (SipSide.InviteUnanswered t y) h = inl refl
@@ -247,7 +247,7 @@ module _ (pool : States) (k : Call) (sound : sides_agree k.exchange k.sip ≡ tr
 
   pub on_bye : (d : ℕ) → is_held_by d k.sip ≡ true → Balanced pool (Some k) (ABye d) (leaves k)
   on_bye d h =
-      moved_balanced pool (ABye d) (λ t. refl) k k.digits _ _ (clears_law k _) (byes_sip d k.sip h) (unseized_clears _) (left_fits _ (held_stage d k.sip h))
+      moved_balanced pool (ABye d) (λ t. refl) k k.digits _ _ (clears_law k _) (byes_sip d k.sip h) (unseized_clears _) (left_agree _ (held_stage d k.sip h))
 
   module _ (n d : ℕ) where
     abbrev ok : Brought

@@ -6,9 +6,9 @@ use Rattle.pools.specs.States.{States, idle, seized, after_any}
 use Rattle.std.proofs.lemmas.Bool.{cond_both, cond-true, eq-eqb, eqb-true}
 use Rattle.calls.specs.Sides.{named, equals_some, holds, owes, owes_from, on_call, sum_of, one_if, bye_in, holds_dialogue, is_in, is_invite_sent}
 use Rattle.calls.specs.Effects.{Effect}
-use Rattle.calls.specs.Rules.{Event, State, Outcome, Refuse, Reply, Change, TookExchange, TookSip, outcome, applied, first, freed}
+use Rattle.calls.specs.Rules.{Event, State, Outcome, Refuse, Reply, Change, TookExchange, TookSip, outcome, settled, first, freed}
 use Rattle.calls.specs.Run.{Happening, happened, Opening, Run, opened, stepped}
-use Rattle.calls.specs.Laws.{Laws, Brought, AnInvite, brought_by, invite_count, is_ok_on, is_bye_on, dialogue_after, seizures, releases, holders, owing, invites_taken, finals_sent, setups_taken, connects_sent, last_dialogue, is_unended, sends, Stands, exchange_sent, exchange_gone, sip_sent, sip_gone}
+use Rattle.calls.specs.Laws.{Laws, Brought, AnInvite, brought_by, invite_count, is_ok_on, is_bye_on, dialogue_after, seizures_of, releases_of, holders, owing, invites_taken, finals_sent, setups_taken, connects_sent, last_dialogue, is_unended, sends, Stands, exchange_sent, exchange_gone, sip_sent, sip_gone}
 use Rattle.std.specs.Option.{option_to_list}
 use Rattle.calls.proofs.Moves.{Linked}
 use Rattle.calls.specs.Standing.{Everywhere, sides_agree, SoundAt}
@@ -18,7 +18,7 @@ use Rattle.calls.proofs.Steps.{Lawful, Fresh, lawful, spoken}
 
 -- the laws, and what else a run keeps so that they follow
 pub record Inv (pool : States) (past : List Happening) (st : State) : Type 0 where
-  pub counts : (c : ℕ) → seizures c past ≡ releases c past + holders c st
+  pub counts : (c : ℕ) → seizures_of c past ≡ releases_of c past + holders c st
   pub one : (c : ℕ) → holders c st ≤ 1
   pub shows : (c : ℕ) → st.pool c ≡ cond (eqb (holders c st) 0) (pool c) ChannelState.Seized
   pub free : (c : ℕ) → 0 < holders c st → pool c ≡ ChannelState.Idle
@@ -158,15 +158,15 @@ module _ (pool : States) (past : List Happening) (st : State) (v : Inv pool past
   abbrev ev : Brought
   ev = brought_by event
 
-  refused : (r : _) → Inv pool (happened st event (Refuse r) ∷ past) (applied st (Refuse r))
+  refused : (r : _) → Inv pool (happened st event (Refuse r) ∷ past) (settled st (Refuse r))
   refused r =
       record { counts = λ c. omega (arith, v.counts c); one = v.one; shows = v.shows; free = v.free; invites_balance = λ t. omega (arith, v.invites_balance t); owing_one = v.owing_one; dialogue_goes_on = v.dialogue_goes_on; linked = v.linked; connects_were_asked = λ x. omega (arith, v.connects_were_asked x); sound = v.sound; present = v.present; exchange_queue = idles (exchange_gone past) st.exchange (exchange_sent past) v.exchange_queue; sip_queue = idles (sip_gone past) st.sip (sip_sent past) v.sip_queue }
 
-  took_exchange : Inv pool (happened st event TookExchange ∷ past) (applied st TookExchange)
+  took_exchange : Inv pool (happened st event TookExchange ∷ past) (settled st TookExchange)
   took_exchange =
       record { counts = λ c. omega (arith, v.counts c); one = v.one; shows = v.shows; free = v.free; invites_balance = λ t. omega (arith, v.invites_balance t); owing_one = v.owing_one; dialogue_goes_on = v.dialogue_goes_on; linked = v.linked; connects_were_asked = λ x. omega (arith, v.connects_were_asked x); sound = v.sound; present = v.present; exchange_queue = takes (exchange_gone past) st.exchange (exchange_sent past) v.exchange_queue; sip_queue = idles (sip_gone past) st.sip (sip_sent past) v.sip_queue }
 
-  took_sip : Inv pool (happened st event TookSip ∷ past) (applied st TookSip)
+  took_sip : Inv pool (happened st event TookSip ∷ past) (settled st TookSip)
   took_sip =
       record { counts = λ c. omega (arith, v.counts c); one = v.one; shows = v.shows; free = v.free; invites_balance = λ t. omega (arith, v.invites_balance t); owing_one = v.owing_one; dialogue_goes_on = v.dialogue_goes_on; linked = v.linked; connects_were_asked = λ x. omega (arith, v.connects_were_asked x); sound = v.sound; present = v.present; exchange_queue = idles (exchange_gone past) st.exchange (exchange_sent past) v.exchange_queue; sip_queue = takes (sip_gone past) st.sip (sip_sent past) v.sip_queue }
 
@@ -179,7 +179,7 @@ module _ (pool : States) (past : List Happening) (st : State) (v : Inv pool past
         let w = ended_cases (bye_in d ss) (is_bye_on d ev) (is_ok_on d ev) (sends d last ss) (is_unended d past) e in
         ⊎_elim (λ c. absurd (omega (arith, b.dialogue_opens d c w.0))) (⊎_elim (λ s. absurd (omega (arith, b.dialogue_opens_by_ours last d tt s))) (v.dialogue_goes_on d)) w.2
 
-    replied : Inv pool (happened st event (Reply ms ss) ∷ past) (applied st (Reply ms ss))
+    replied : Inv pool (happened st event (Reply ms ss) ∷ past) (settled st (Reply ms ss))
     replied =
         record { counts = λ c. omega (arith, v.counts c); one = v.one; shows = v.shows; free = v.free; invites_balance = λ t. omega (arith, v.invites_balance t, b.invites_balance t); owing_one = v.owing_one; dialogue_goes_on = replied_talks; linked = links ev (last_dialogue past) st.table f v.linked; connects_were_asked = λ x. omega (arith, v.connects_were_asked x, b.connects_were_asked x); sound = v.sound; present = v.present; exchange_queue = puts (exchange_gone past) st.exchange (exchange_sent past) v.exchange_queue ms; sip_queue = puts (sip_gone past) st.sip (sip_sent past) v.sip_queue ss }
 
@@ -219,7 +219,7 @@ module _ (pool : States) (past : List Happening) (st : State) (v : Inv pool past
         let low = sum_of_at (talks_call d) st.table i in
         ⊎_elim (λ c. omega (arith, b.dialogue_opens d c w.0, step, low)) (⊎_elim (λ s. omega (arith, b.dialogue_opens_by_ours last d old_linked s, step, low)) (λ u. omega (arith, v.dialogue_goes_on d u, b.dialogue_goes_on d w.0 w.1, step))) w.2
 
-    moves : Inv pool (happened st event (Change i e) ∷ past) (applied st (Change i e))
+    moves : Inv pool (happened st event (Change i e) ∷ past) (settled st (Change i e))
     moves =
         record {
           counts = λ c. omega (arith, v.counts c, changed (holds c), b.seizures_balance c);
@@ -237,7 +237,7 @@ module _ (pool : States) (past : List Happening) (st : State) (v : Inv pool past
           sip_queue = puts (sip_gone past) st.sip (sip_sent past) v.sip_queue e.sip;
         }
 
-  step : (o : Outcome) → Lawful st ev o → Inv pool (happened st event o ∷ past) (applied st o)
+  step : (o : Outcome) → Lawful st ev o → Inv pool (happened st event o ∷ past) (settled st o)
   step (Refuse r) l = refused r
   step (Reply ms ss) l = replied ms ss l.0 l.1
   step (Change i e) l = moves i e l.0 l.1 l.2

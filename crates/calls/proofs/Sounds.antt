@@ -1,5 +1,5 @@
 -- A table whose calls are sound at every place, as a test and as a fact of each place.
-use Rattle.std.proofs.Common.{◌≡◌, ℕ, zero, suc, Bool, true, ◌&&◌, List, [], ◌∷◌, set, Some, None, Option, refl, arith}
+use Rattle.std.proofs.Common.{◌≡◌, ℕ, zero, suc, Bool, true, ◌&&◌, List, [], ◌∷◌, set, Option, refl, arith}
 use Rattle.std.proofs.lemmas.Bool.Decides.{nat_tests}
 use Rattle.calls.specs.Records.{Call}
 use Rattle.calls.specs.Standing.{Everywhere, SoundAt, is_sound_at, is_sound}

@@ -10,7 +10,7 @@ use Rattle.pools.specs.declared.channel.ChannelState.TheVariants.{Idle, Seized}
 use Rattle.pools.specs.States.{States}
 use Rattle.calls.specs.Sides.{is_in, is_invite_sent, is_gone, one_if, equals_some, named, holds, owes, sum_of, holds_dialogue, connects_in, finals_in, bye_in}
 use Rattle.calls.specs.Rules.{Event, Exchange, Invite, Bye, Response, State, Stepping}
-use Rattle.calls.specs.Run.{Happening, Opening, Run, Tells}
+use Rattle.calls.specs.Run.{Happening, Opening, Run, HistoryOf}
 
 -- ---------------------------------------------------------------- what an event brings
 -- what the laws count of an event: a SETUP with its reference, an INVITE with its transaction and dialogue, a 200 or a BYE on a
@@ -67,11 +67,11 @@ on_report f (Answer.Step (Ok r)) = f r
 on_report f _ = 0
 
 -- reports that name channel c seized, and released
-abbrev pub seizures : ℕ → List Happening → ℕ
-seizures c = total (λ h. on_report (λ r. named c r.seized) h.answer)
+abbrev pub seizures_of : ℕ → List Happening → ℕ
+seizures_of c = total (λ h. on_report (λ r. named c r.seized) h.answer)
 
-abbrev pub releases : ℕ → List Happening → ℕ
-releases c = total (λ h. on_report (λ r. named c r.released) h.answer)
+abbrev pub releases_of : ℕ → List Happening → ℕ
+releases_of c = total (λ h. on_report (λ r. named c r.released) h.answer)
 
 -- INVITEs with transaction t that were not refused
 abbrev pub invites_taken : ℕ → List Happening → ℕ
@@ -171,7 +171,7 @@ sip_gone past = oldest_first (λ h. sip_taken h.answer) past
 -- the pool at the opening, the history since, and the state that it led to: of each channel that was idle, of each transaction
 -- of an INVITE that came, of each dialogue, of each reference, of each call, and of what was taken and what waits of all that was sent
 pub record Laws (pool : States) (past : List Happening) (st : State) : Type 0 where
-  pub seizures_balance : (c : ℕ) → pool c ≡ Idle → seizures c past ≡ releases c past + holders c st
+  pub seizures_balance : (c : ℕ) → pool c ≡ Idle → seizures_of c past ≡ releases_of c past + holders c st
   pub one_holder : (c : ℕ) → pool c ≡ Idle → holders c st ≤ 1
   pub seized_is_held : (c : ℕ) → pool c ≡ Idle → st.pool c ≡ Seized → holders c st ≡ 1
   pub held_is_seized : (c : ℕ) → pool c ≡ Idle → holders c st ≡ 1 → st.pool c ≡ Seized
@@ -198,7 +198,7 @@ RunLaw =
 -- whatever led to the state at entry, a longer history by exactly these events and answers leads to the state at exit
 pub record Longer (start : State) (past : List Happening) (entry : State) (events : List Event) (answers : List Answer) (exit : State) : Type 0 where
   pub more : List Happening
-  pub told : Tells more events answers
+  pub told : HistoryOf more events answers
   pub run : Run start (more ++ past) exit
   pub rest : Run entry more exit
   pub each : (later earlier : List Happening) → later ++ earlier ≡ more ++ past → Passed start later earlier exit

@@ -1,4 +1,4 @@
--- The rules of one step of the whole gateway, and the one place where effects are applied.
+-- The rules of one step of the whole gateway, and the one place where effects are settled.
 use Rattle.std.specs.Prelude.{◌≡◌, ℕ, suc, ◌+◌, ◌-◌, ◌<◌, Bool, true, false, not, ◌&&◌, List, [], ◌∷◌, ◌++◌, length, drop, Some, None, Ok, Err, Option, Result, ◌==◌, ◌≢◌, if◌then◌else◌, nat_le, nat_lt, slice_index_or, slice_set}
 use Rattle.calls.specs.Records.{Ground, MessageType, CallReference, Channel, Message, Misread, Answer, Refused, Report, Timer, SipMessage, Call, Digits, Found}
 use Rattle.messages.specs.Elements.{DigitsPart, all_digits}
@@ -7,7 +7,7 @@ use Rattle.causes.specs.Names
 use Rattle.pools.specs.States.{States, idle, seized, after_any, after_release, AnyWasIdle}
 use Rattle.calls.specs.Refusing.{placeless, placed}
 use Rattle.calls.specs.Sides.{is_over, is_no_sip, awaits_response, is_unanswered, holds_dialogue, equals_some, number_of}
-use Rattle.calls.specs.Effects.{Effect, is_nothing, misdialled, cause_for, rejection, on_type, on_expiry, on_cancel_expiry, provisional, fails, accepts, ack_and_bye, leaves, begins, invited}
+use Rattle.calls.specs.Effects.{Effect, is_nothing, is_too_many, misdialled, cause_for, rejection, on_type, on_expiry, on_cancel_expiry, provisional, fails, accepts, ack_and_bye, leaves, begins, invited}
 
 -- ---------------------------------------------------------------- events
 -- what comes to a gateway: octets from the exchange, the SIP layer's INVITE (transaction, dialogue, digits), CANCEL
@@ -161,7 +161,7 @@ on_message st ch m (Some f) = at f.place (on_type st.full ch.pick m f.call m.kin
 -- ---------------------------------------------------------------- SIP events
 -- the status that answers an INVITE whose digits make no call: none at all, too many, or no digits
 abbrev pub dialling_status : List ℕ → Option ℕ
-dialling_status xs = if is_nothing xs then Some Names.address_incomplete else if nat_le (length xs) 20 && all_digits xs then None else Some Names.not_found
+dialling_status xs = if is_nothing xs then Some Names.address_incomplete else if not (is_too_many xs) && all_digits xs then None else Some Names.not_found
 
 -- a final response that makes no call
 abbrev pub replies : ℕ → ℕ → Outcome
@@ -250,7 +250,7 @@ outcome st ch (CancelExpiry n) = roomed st (at_call on_cancel_expiry (seek (by_n
 outcome st ch TakeExchange = TookExchange
 outcome st ch TakeSip = TookSip
 
--- ---------------------------------------------------------------- the one place where effects are applied
+-- ---------------------------------------------------------------- the one place where effects are settled
 -- a channel is released where it is seized
 abbrev pub freed : Option ℕ → States → States
 freed None s k = s k
@@ -288,28 +288,28 @@ abbrev pub seizing : State → Option ℕ → State
 seizing st took = record st { pool = after_any took st.pool }
 
 -- an effect at place i whose channel is seized already: the other is released, the messages wait, a number may be used up
-abbrev pub settled : State → ℕ → Effect → State
-settled st i e =
+abbrev pub applied : State → ℕ → Effect → State
+applied st i e =
     record (sending st e.exchange e.sip) { table = slice_set st.table i e.after; pool = freed e.released st.pool; next = following e.numbered st.next }
 
 -- the gateway after an effect at place i: first the one channel is seized, then the other released
 abbrev pub changed : State → ℕ → Effect → State
-changed st i e = settled (seizing st e.seized) i e
+changed st i e = applied (seizing st e.seized) i e
 
 -- a refusal leaves the whole state
-abbrev pub applied : State → Outcome → State
-applied st (Refuse r) = st
-applied st (Reply ms ss) = sending st ms ss
-applied st (Change i e) = changed st i e
-applied st TookExchange = record st { exchange = drop 1 st.exchange }
-applied st TookSip = record st { sip = drop 1 st.sip }
+abbrev pub settled : State → Outcome → State
+settled st (Refuse r) = st
+settled st (Reply ms ss) = sending st ms ss
+settled st (Change i e) = changed st i e
+settled st TookExchange = record st { exchange = drop 1 st.exchange }
+settled st TookSip = record st { sip = drop 1 st.sip }
 
 -- what came of a rule, whatever is picked of what is left open
 pub record Did (st : State) (rule : Choice → Outcome) (a : Answer) (st' : State) : Type 0 where
   pub choice : Choice
   pub fair : Fair st choice
   pub answer : a ≡ answer_of st (rule choice)
-  pub after : st' ≡ applied st (rule choice)
+  pub after : st' ≡ settled st (rule choice)
 
 -- one step by the rules
 abbrev pub Stepped : State → Event → Answer → State → Type 0

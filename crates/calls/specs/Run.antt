@@ -1,7 +1,7 @@
 -- Runs of a gateway: what happened, newest first, and the state that it led to.
 use Rattle.std.specs.Prelude.{◌≡◌, List, [], ◌∷◌, map, reverse, replicate, None}
 use Rattle.calls.specs.Records.{Message, Answer, SipMessage, Digits}
-use Rattle.calls.specs.Rules.{Event, State, Choice, Fair, Outcome, Reply, Change, outcome, applied, answer_of}
+use Rattle.calls.specs.Rules.{Event, State, Choice, Fair, Outcome, Reply, Change, outcome, settled, answer_of}
 
 -- an event, its answer, and what was put into the two queues
 pub record Happening : Type 0 where
@@ -32,9 +32,9 @@ pub record Opening (st : State) : Type 0 where
 -- a run from a state: each event with the outcome that the rules give it, whichever idle channel and free place are picked
 pub data Run (start : State) : List Happening → State → Type 0 where
   opened : Run start [] start
-  stepped : {past : List Happening} {st : State} (ch : Choice) (ev : Event) → Fair st ch → Run start past st → Run start (happened st ev (outcome st ch ev) ∷ past) (applied st (outcome st ch ev))
+  stepped : {past : List Happening} {st : State} (ch : Choice) (ev : Event) → Fair st ch → Run start past st → Run start (happened st ev (outcome st ch ev) ∷ past) (settled st (outcome st ch ev))
 
 -- these events, oldest first, with these answers
-pub record Tells (past : List Happening) (evs : List Event) (ans : List Answer) : Type 0 where
+pub record HistoryOf (past : List Happening) (evs : List Event) (ans : List Answer) : Type 0 where
   pub events : map (λ h. h.event) (reverse past) ≡ evs
   pub answers : map (λ h. h.answer) (reverse past) ≡ ans

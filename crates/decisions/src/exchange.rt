@@ -10,7 +10,7 @@ use call_table::{Key, Table};
 use calls::{Call, Found, Timer};
 use causes::{CHANNEL_UNAVAILABLE, INVALID_CALL_REFERENCE, NO_CHANNEL_AVAILABLE};
 use effects::rejection;
-use exchange_rules::{asks_for_another, on_expiry, on_message};
+use exchange_rules::{asks_for_another, on_expiry, on_type};
 use messages::{CallReference, Channel, Message, MessageType, Part};
 use queues::few::Few;
 use refusals::Ground;
@@ -19,7 +19,7 @@ use refusals::Ground;
 pub fn at_its_call(full: usize, message: Message<Part<'_>>, found: Found) -> Result<Outcome, Ground>
     ensures by_type_and_state { outcome_of result ≡ at found.place (on_type full None (seen_record message.entry) found.call message.entry.kind) }
 {
-    let effect = on_message(full, None, message, found.call)?;
+    let effect = on_type(full, None, message, found.call)?;
     Ok(Outcome::at(found, effect))
 }
 

@@ -65,7 +65,7 @@ fn is_another(holder: Option<Found>, mine: Option<Found>) -> bool
 }
 
 /// A 200 at the call of its number; without one it is acknowledged and ended.
-fn at_its_call(response: Response, mine: Option<Found>) -> Outcome
+fn ok_at_its_call(response: Response, mine: Option<Found>) -> Outcome
     ensures at_its_call_or_ended { outcome_of (Ok result) ≡ on_ok response.number response.dialogue mine }
 {
     match mine {
@@ -85,7 +85,7 @@ fn on_ok(table: &Table, response: Response) -> Result<Outcome, Ground>
     if is_another(table.find(Key::Dialogue(response.dialogue)), mine) {
         return Err(Ground::DialogueInUse);
     }
-    Ok(at_its_call(response, mine))
+    Ok(ok_at_its_call(response, mine))
 }
 
 /// A provisional response, or a final one that refuses, at the call that awaits it.

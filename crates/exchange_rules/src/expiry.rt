@@ -24,7 +24,7 @@ fn gives_up(call: Call, status: u16) -> Effect
 }
 
 /// No more digits came: those that are there are taken for a whole number.
-fn dials(call: Call) -> Effect
+fn no_more_digits(call: Call) -> Effect
     ensures dialled_unless_nothing { effect_of result ≡ on_timer call Timer.T302 }
 {
     if is_nothing(call.digits) {
@@ -50,7 +50,7 @@ fn on_timer(call: Call, timer: Timer) -> Effect
 {
     match timer {
         Timer::T301 => gives_up(call, TEMPORARILY_UNAVAILABLE),
-        Timer::T302 => dials(call),
+        Timer::T302 => no_more_digits(call),
         Timer::T303 | Timer::T310 | Timer::T313 => gives_up(call, REQUEST_TIMEOUT),
         Timer::T305 => moved(call, releases(call, false), keeps(call)),
         Timer::T308 => repeats(call),

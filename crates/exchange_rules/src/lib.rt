@@ -8,5 +8,5 @@ mod moment;
 mod setup;
 
 pub use expiry::on_expiry;
-pub use message::{asks_for_another, on_message, tries_again};
+pub use message::{asks_for_another, on_type, tries_again};
 pub use setup::{DialledSetup, begins};

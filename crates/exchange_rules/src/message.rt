@@ -128,7 +128,7 @@ fn completed(pick: Option<u8>, cause: Option<Cause>, call: Call) -> Effect
 }
 
 /// A message of each type; `full` is the length of a full number, `pick` an idle channel if there is one.
-pub fn on_message(
+pub fn on_type(
     full: usize,
     pick: Option<u8>,
     message: Message<Part<'_>>,

@@ -16,7 +16,7 @@ use queues::few::Few;
 pub struct DialledSetup<'a> {
     pub message: Message<Part<'a>>,
     pub digits: Dialled<'a>,
-    ghost heard: { digits.octets.now ≡ called_digits (seen_record message) },
+    ghost as_called: { digits.octets.now ≡ called_digits (seen_record message) },
 }
 
 impl<'a> DialledSetup<'a> {

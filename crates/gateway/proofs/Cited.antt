@@ -5,7 +5,7 @@ pub use Rattle.calls.proofs.Dids.{bounded, did, first_taken, in_room, moved, pla
 pub use Rattle.calls.proofs.Sounds.{sound_set}
 pub use Rattle.calls.specs.Effects.{Effect, begins, invited, misdialled, on_cancel_expiry, on_expiry, on_type, tries_again}
 pub use Rattle.calls.specs.Refusing.{placed}
-pub use Rattle.calls.specs.Rules.{Bye, Cancel, CancelExpiry, Change, Choice, Expiry, Fair, Outcome, Refuse, Response, State, TookExchange, TookSip, admitted, at, at_call, by_number, by_reference, by_transaction, calls_out, dialling_status, is_roomy, is_status, on_invite, on_leave, on_message, on_octets, on_response, on_setup, outcome, refuse, rejects, replies, roomed, seated, seek, settled, uncalled, unless_answered, unless_refused}
+pub use Rattle.calls.specs.Rules.{Bye, Cancel, CancelExpiry, Change, Choice, Expiry, Fair, Outcome, Refuse, Response, State, TookExchange, TookSip, admitted, at, at_call, by_number, by_reference, by_transaction, calls_out, dialling_status, is_roomy, is_status, on_invite, on_leave, on_message, on_octets, on_response, on_setup, outcome, refuse, rejects, replies, roomed, seated, seek, applied, uncalled, unless_answered, unless_refused}
 pub use Rattle.calls.specs.Run.{opened}
 pub use Rattle.calls.specs.Sides.{holds_dialogue}
 pub use Rattle.calls.specs.Standing.{is_sound}

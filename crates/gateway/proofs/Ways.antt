@@ -7,7 +7,7 @@ use Rattle.gateway.specs.Records.{Ground, Message, CallReference, Answer, Refuse
 use Rattle.pools.specs.States.{States}
 use Rattle.calls.specs.Refusing.{placeless}
 use Rattle.calls.specs.Standing.{is_sound}
-use Rattle.calls.specs.Rules.{State, Choice, Fair, Event, Outcome, Reply, refuse, outcome, roomed, is_roomy, applied, Did, seek, by_reference}
+use Rattle.calls.specs.Rules.{State, Choice, Fair, Event, Outcome, Reply, refuse, outcome, roomed, is_roomy, settled, Did, seek, by_reference}
 use Rattle.calls.specs.Laws.{brought_by}
 use Rattle.calls.proofs.Choices.{Bounded, fair_place}
 use Rattle.calls.proofs.Dids.{plainly}
@@ -38,7 +38,7 @@ module _ (st : State) where
   full_refused rule b e q = plainly st (λ ch. roomed st (rule ch)) b (refuse Ground.QueueFull) (λ ch. cond-false (is_roomy st) (rule ch) (refuse Ground.QueueFull) e) q refl
 
   -- an answer that touches no call, as the code gives it
-  pub replied : (ms : List (Message Digits)) (ss : List SipMessage) (p : States) (es : List (Message Digits)) (xs : List SipMessage) (m n : ℕ) → ((k : ℕ) → p k ≡ st.pool k) → es ≡ st.exchange ++ ms → xs ≡ st.sip ++ ss → m ≡ st.exchange_places → n ≡ st.sip_places → record { table = st.table; pool = p; exchange = es; sip = xs; exchange_places = m; sip_places = n; next = st.next; full = st.full } ≡ applied st (Reply ms ss)
+  pub replied : (ms : List (Message Digits)) (ss : List SipMessage) (p : States) (es : List (Message Digits)) (xs : List SipMessage) (m n : ℕ) → ((k : ℕ) → p k ≡ st.pool k) → es ≡ st.exchange ++ ms → xs ≡ st.sip ++ ss → m ≡ st.exchange_places → n ≡ st.sip_places → record { table = st.table; pool = p; exchange = es; sip = xs; exchange_places = m; sip_places = n; next = st.next; full = st.full } ≡ settled st (Reply ms ss)
   replied ms ss p es xs m n h e f q r =
       λ j. record { table = st.table; pool = λ k. h k j; exchange = e j; sip = f j; exchange_places = q j; sip_places = r j; next = st.next; full = st.full }
 

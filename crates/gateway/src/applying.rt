@@ -1,6 +1,6 @@
-//! The one place where effects are applied.
+//! The one place where effects are settled.
 ghost use Rattle.std.specs.Prelude.{◌≡◌, ℕ, true};
-ghost use Rattle.calls.specs.Rules.{is_roomy, reported, freed, settled};
+ghost use Rattle.calls.specs.Rules.{is_roomy, reported, freed, applied};
 ghost use Rattle.call_table.specs.Tokens.{token_channel};
 ghost use Rattle.effects.specs.Moves.{effect_of};
 ghost use Rattle.gateway.specs.Stands.{state_of, Ready};
@@ -34,7 +34,7 @@ impl<P: Pool> Gateway<P> {
         requires ready { Ready self.old.table.places place effect.after effect.report.released token }
         requires roomy { is_roomy (state_of P.Pool.state self.old queues.old) ≡ true }
         ensures report_of_the_effect { result ≡ reported (effect_of effect) }
-        ensures effect_settled { state_of P.Pool.state self.new queues.new ≡ settled (state_of P.Pool.state self.old queues.old) place (effect_of effect) }
+        ensures effect_applied { state_of P.Pool.state self.new queues.new ≡ applied (state_of P.Pool.state self.old queues.old) place (effect_of effect) }
     {
         queues.send(effect.exchange, effect.sip);
         self.next = following(effect.numbered, self.next);

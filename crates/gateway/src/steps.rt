@@ -3,7 +3,7 @@ ghost use Rattle.std.specs.Prelude.{◌≡◌, true, false, OnErr};
 ghost use Rattle.calls.specs.declared.answers.Answer.{Answer};
 ghost use Rattle.calls.specs.Sides.{is_over};
 ghost use Rattle.calls.specs.Effects.{on_type};
-ghost use Rattle.calls.specs.Rules.{Did, Stepped, Event, Choice, outcome, at, seek, by_reference, on_message, uncalled, roomed, is_roomy, answer_of, applied};
+ghost use Rattle.calls.specs.Rules.{Did, Stepped, Event, Choice, outcome, at, seek, by_reference, on_message, uncalled, roomed, is_roomy, answer_of, settled};
 ghost use Rattle.calls.specs.Rules as rules;
 ghost use Rattle.call_table.specs.Keys.{Within};
 ghost use Rattle.reader.specs.Seen.{seen_record};
@@ -35,7 +35,7 @@ impl<P: Pool> Gateway<P> {
         requires roomy { is_roomy (state_of P.Pool.state self.old queues.old) ≡ true }
         ensures refusal_leaves_all { OnErr result ((self.new ≡ self.old) × (queues.new ≡ queues.old)) }
         ensures answer_of_the_outcome { Answer.Step result ≡ answer_of (state_of P.Pool.state self.old queues.old) (outcome_of decision) }
-        ensures outcome_applied { state_of P.Pool.state self.new queues.new ≡ applied (state_of P.Pool.state self.old queues.old) (outcome_of decision) }
+        ensures outcome_settled { state_of P.Pool.state self.new queues.new ≡ settled (state_of P.Pool.state self.old queues.old) (outcome_of decision) }
     {
         match decision? {
             Outcome::Reply { exchange, sip } => {

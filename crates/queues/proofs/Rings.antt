@@ -10,10 +10,10 @@ module _ {M : Type 0} where
   same_length : (xs ys : List (Option M)) (i : ℕ) (v : Option M) → ys ≡ set xs i v → length ys ≡ length xs
   same_length xs ys i v e = ap length e ∙ simp length-set
 
-  messages_in-push : (l : List (Option M)) (m : M) → messages_in (l ++ Some m ∷ []) ≡ messages_in l ++ m ∷ []
-  messages_in-push [] m = refl
-  messages_in-push (None ∷ l) m = messages_in-push l m
-  messages_in-push (Some x ∷ l) m = ap (λ r. x ∷ r) (messages_in-push l m)
+  messages_in_push : (l : List (Option M)) (m : M) → messages_in (l ++ Some m ∷ []) ≡ messages_in l ++ m ∷ []
+  messages_in_push [] m = refl
+  messages_in_push (None ∷ l) m = messages_in_push l m
+  messages_in_push (Some x ∷ l) m = ap (λ r. x ∷ r) (messages_in_push l m)
 
   messages_in_le : (l : List (Option M)) → length (messages_in l) ≤ length l
   messages_in_le [] = omega arith
@@ -52,7 +52,7 @@ module _ {M : Type 0} where
   put_last xs f n m hf h =
       let long = ring_length xs f hf in
       let lt : n < length (ring xs f) = omega arith in
-      ap (λ l. messages_in (take (n + 1) l)) (filled xs f n (Some m) hf h) ∙ ap messages_in (take_more_set (ring xs f) n (Some m) lt) ∙ messages_in-push (take n (ring xs f)) m
+      ap (λ l. messages_in (take (n + 1) l)) (filled xs f n (Some m) hf h) ∙ ap messages_in (take_more_set (ring xs f) n (Some m) lt) ∙ messages_in_push (take n (ring xs f)) m
 
   -- a message in the place behind the used ones waits last
   pub waits_last : (xs ys : List (Option M)) (f n count at : ℕ) (m : M) → f ≤ length xs → n < length xs → count ≡ length xs → at ≡ behind f n count → ys ≡ set xs at (Some m) → in_ring ys f (n + 1) ≡ in_ring xs f n ++ m ∷ []

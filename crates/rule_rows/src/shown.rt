@@ -122,8 +122,8 @@ impl fmt::Display for EffectText {
 }
 
 /// The line of an effect, or of a refusal.
-pub fn line_of(heap: Global, ruling: Result<Effect, Ground>) -> Result<String, AllocError> {
-    match ruling {
+pub fn line_of(heap: Global, decision: Result<Effect, Ground>) -> Result<String, AllocError> {
+    match decision {
         Ok(effect) => format!(in heap; "{}", EffectText(effect)),
         Err(ground) => format!(in heap; "refused {}", ground.number()),
     }

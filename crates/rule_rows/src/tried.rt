@@ -4,7 +4,7 @@ use crate::shown::line_of;
 use crate::stand::{CHANNEL, NUMBER, SETUP_REFERENCE, invite};
 use calls::{Call, Response};
 use effects::Effect;
-use exchange_rules::{DialledSetup, begins, on_expiry, on_message};
+use exchange_rules::{DialledSetup, begins, on_expiry, on_type};
 use messages::{Elements, Message, MessageType, Part};
 use refusals::Ground;
 use sip_rules::{accepts, dialled, invited, leaves, on_cancel_expiry, on_other};
@@ -32,7 +32,7 @@ fn at_call(call: Call, event: Event<'_>) -> Result<Effect, Ground> {
                 kind,
                 elements,
             };
-            on_message(FULL, idle, message, call)
+            on_type(FULL, idle, message, call)
         }
         Event::Expiry(timer) => on_expiry(timer, call),
         Event::CancelExpiry => on_cancel_expiry(call),

@@ -4,7 +4,7 @@ use Rattle.pools.specs.States.{States}
 use Rattle.calls.specs.declared.answers.Answer.{Answer}
 use Rattle.calls.specs.declared.record.Call.{Call}
 use Rattle.calls.specs.Rules.{Event, State, Stepping}
-use Rattle.calls.specs.Run.{Happening, Opening, Tells}
+use Rattle.calls.specs.Run.{Happening, Opening, HistoryOf}
 use Rattle.calls.specs.Laws.{Laws}
 
 -- with these settings, this pool and this many places, and no call yet
@@ -23,7 +23,7 @@ pub record Played (pool : States) (full first exchange_places sip_places : ℕ) 
   pub start : State
   pub begun : Opened pool full first exchange_places sip_places start
   pub past : List Happening
-  pub told : Tells past events answers
+  pub told : HistoryOf past events answers
   pub end : State
   pub calls : end.table ≡ table
   pub channels : end.pool ≡ after

@@ -1,4 +1,4 @@
--- A part of the buffer that is lent and_then, and what comes of the whole.
+-- A part of the buffer that is lent onward, and what comes of the whole.
 use Rattle.std.proofs.Common.{◌≡◌, ℕ, ◌+◌, ◌-◌, true, List, [], ◌++◌, length, take, drop, sym, arith, length-append}
 use borrow.Rule.Slice.PartMut.{put_mid}
 use Rattle.std.proofs.lemmas.List.{take_at, drop_at, drop_all, drop-drop, take_rest, length-drop, append-nil, append_assoc}

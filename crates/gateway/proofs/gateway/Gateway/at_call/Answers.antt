@@ -24,5 +24,5 @@ returns-else-wants_another g c =
       refusal_leaves_all = c.settle.ensures.refusal_leaves_all;
       by_type_and_state = plainly st rule b (outcome_of c.at_its_call-decision.result)
           (λ ch. ap (at f.place) (unpicked st.full ch.pick m f.call (sym c.if-wants_another.ensures.setup_refused_for_its_channel)) ∙ sym c.at_its_call-decision.ensures.by_type_and_state)
-          c.settle.ensures.answer_of_the_outcome c.settle.ensures.outcome_applied;
+          c.settle.ensures.answer_of_the_outcome c.settle.ensures.outcome_settled;
     }

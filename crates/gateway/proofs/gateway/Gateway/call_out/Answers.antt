@@ -40,5 +40,5 @@ returns-in-Some-seize_any g c =
     let ch : Choice = record { pick = Some x; place = Some i } in
     let fair : Fair st ch = record { pick = c.in-Some-seize_any.ensures.granted_exactly_if_one_is_idle; place = c.in-Some.ensures.a_free_place_or_none_is_free } in
     let same = c.invited-effect.ensures.setup_on_the_channel ∙ ap (λ (y : ℕ). invited t d xs y) c.channel.ensures.answers_its_channel in
-    let m = moved st i (effect_of c.invited-effect.result) e (Some x) (g.P.Pool.state c.seize_any.new.self.pool) c.in-Some-seize_any.ensures.grant_seizes_it_alone same refl c.apply.ensures.report_of_the_effect c.apply.ensures.effect_settled in
+    let m = moved st i (effect_of c.invited-effect.result) e (Some x) (g.P.Pool.state c.seize_any.new.self.pool) c.in-Some-seize_any.ensures.grant_seizes_it_alone same refl c.apply.ensures.report_of_the_effect c.apply.ensures.effect_applied in
     record { a_call_or_503 = did st (λ ch. calls_out t d xs ch.place ch.pick) ch fair (Change i e) refl m.0 m.1 }

@@ -10,7 +10,7 @@ returns-clause-a_step_of_each_event_that_comes_to_it g c =
     let b = bounded g.P.Pool.state g.P.Pool.top g.met.P.Pool.known_within_top g.met.P.Pool.top_within_127 c.args.self.now.trunk.pool in
     λ ev o p e.
     plainly st (λ ch. outcome st ch ev) b (outcome_of c.args.decision) (λ ch. e ch ∙ cond-true (is_roomy st) o (refuse Ground.QueueFull) c.in_ok-need_room.ensures.two_places_in_either ∙ sym p)
-    c.settle.ensures.answer_of_the_outcome c.settle.ensures.outcome_applied
+    c.settle.ensures.answer_of_the_outcome c.settle.ensures.outcome_settled
 
 pub returns-in_err-need_room-clause-a_step_of_each_event_that_comes_to_it : goal.returns-in_err-need_room-clause-a_step_of_each_event_that_comes_to_it
 returns-in_err-need_room-clause-a_step_of_each_event_that_comes_to_it g c =

@@ -20,5 +20,5 @@ returns g c =
     let ch : Choice = record { pick = pick; place = place.0 } in
     let fair : Fair st ch = record { pick = c.seize_any-token.ensures.granted_exactly_if_one_is_idle; place = place.1 } in
     let same = c.tries_again-effect.ensures.another_channel_or_none ∙ ap (λ (x : Option ℕ). tries_again x f.call) c.token_channel.ensures.answers_its_channel in
-    let m = moved st f.place (effect_of c.tries_again-effect.result) (tries_again pick f.call) pick (g.P.Pool.state c.seize_any-token.new.self.pool) c.seize_any-token.ensures.grant_seizes_it_alone same (again_seizes pick f.call) c.apply.ensures.report_of_the_effect c.apply.ensures.effect_settled in
+    let m = moved st f.place (effect_of c.tries_again-effect.result) (tries_again pick f.call) pick (g.P.Pool.state c.seize_any-token.new.self.pool) c.seize_any-token.ensures.grant_seizes_it_alone same (again_seizes pick f.call) c.apply.ensures.report_of_the_effect c.apply.ensures.effect_applied in
     record { another_channel_or_none = did st (λ ch. Change f.place (tries_again ch.pick f.call)) ch fair (Change f.place (tries_again pick f.call)) refl m.0 m.1 }

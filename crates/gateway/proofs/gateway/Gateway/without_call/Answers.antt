@@ -9,5 +9,5 @@ returns-else-is_setup g c =
     let m = seen_record c.args.message in
     record {
       refusal_leaves_all = c.settle.ensures.refusal_leaves_all;
-      begun_or_turned_away = plainly st (λ ch. uncalled st ch m m.kind) b (outcome_of c.turned_away.result) (λ ch. turned_away_lem st ch m m.kind (sym c.if-is_setup.ensures.setup_alone) ∙ sym c.turned_away.ensures.answered_unless_release_complete) c.settle.ensures.answer_of_the_outcome c.settle.ensures.outcome_applied;
+      begun_or_turned_away = plainly st (λ ch. uncalled st ch m m.kind) b (outcome_of c.turned_away.result) (λ ch. turned_away_lem st ch m m.kind (sym c.if-is_setup.ensures.setup_alone) ∙ sym c.turned_away.ensures.answered_unless_release_complete) c.settle.ensures.answer_of_the_outcome c.settle.ensures.outcome_settled;
     }
