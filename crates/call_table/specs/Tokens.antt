@@ -7,7 +7,7 @@ abbrev pub token_channel : Option Token → Option ℕ
 token_channel None = None
 token_channel (Some token) = Some token.channel
 
--- channel c where it is granted_channel, else none
+-- channel c where it is granted, else none
 abbrev pub granted_channel : Bool → ℕ → Option ℕ
 granted_channel is_granted c = if is_granted then Some c else None
 

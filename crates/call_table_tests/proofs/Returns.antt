@@ -11,7 +11,7 @@ use Rattle.call_table_tests.specs.Stays.{call_on, Occupies}
 
 -- a call that collects digits on the token's channel is admitted wherever the place is free
 pub admitted_if_free : (places : List (Option Call)) (place c channel : ℕ) (call : Call) → call ≡ call_on channel → channel ≡ c → admits places place call c ≡ is_free places place
-admitted_if_free places place c channel call e f = ap (λ (k : Call). admits places place k c) e ∙ ap (λ b. b && is_free places place) (eq-eqb channel c f)
+admitted_if_free places place c channel call e f = ap (λ (k : Call). admits places place k c) e ∙ ap (λ b. b && is_free places place) (eq-eqb c channel (sym f))
 
 pub handed_back : (free admitted : Bool) (back token : Token) (places after : List (Option Call)) (place : ℕ) (call : Call) → admitted ≡ free → Err back ≡ answered admitted token → after ≡ after_entering admitted places place call → (back.channel ≡ token.channel) × (after ≡ places) × ((wishedIdle exclusive : Bool) (wished : ℕ) (s : States) → Occupies free wishedIdle exclusive wished s None)
 handed_back free true back token places after place call a e f = absurd (let z : ◌≡◌ {A = ℕ} 0 1 = cc in omega arith)

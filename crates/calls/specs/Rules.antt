@@ -1,4 +1,4 @@
--- The rules of one step of the whole gateway, and the one place where effects are settled.
+-- The rules of one step of the whole gateway, and the one place where effects are applied.
 use Rattle.std.specs.Prelude.{◌≡◌, ℕ, suc, ◌+◌, ◌-◌, ◌<◌, Bool, true, false, not, ◌&&◌, List, [], ◌∷◌, ◌++◌, length, drop, Some, None, Ok, Err, Option, Result, ◌==◌, ◌≢◌, if◌then◌else◌, nat_le, nat_lt, slice_index_or, slice_set}
 use Rattle.calls.specs.Records.{Ground, MessageType, CallReference, Channel, Message, Misread, Answer, Refused, Report, Timer, SipMessage, Call, Digits, Found}
 use Rattle.messages.specs.Elements.{DigitsPart, all_digits}
@@ -250,7 +250,7 @@ outcome st ch (CancelExpiry n) = roomed st (at_call on_cancel_expiry (seek (by_n
 outcome st ch TakeExchange = TookExchange
 outcome st ch TakeSip = TookSip
 
--- ---------------------------------------------------------------- the one place where effects are settled
+-- ---------------------------------------------------------------- the one place where effects are applied
 -- a channel is released where it is seized
 abbrev pub freed : Option ℕ → States → States
 freed None s k = s k

@@ -1,4 +1,4 @@
--- Where channels balance at a place, an effect can be settled there.
+-- Where channels balance at a place, an effect can be applied there.
 use Rattle.std.proofs.Common.{◌≡◌, ℕ, ◌+◌, ◌<◌, true, false, cond, eqb, List, length, get_or, is_some, Some, None, Option, refl, ap, arith}
 use Rattle.std.proofs.lemmas.Bool.{eq-eqb}
 use Rattle.std.proofs.lemmas.Bool.Decides.{nat_tests}

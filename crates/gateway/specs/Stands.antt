@@ -33,7 +33,7 @@ pub record Begins {P : Type 0} {G : Ghosts P} (state : P → States) (g : Gatewa
   pub opening : (queues : Outgoing) → waiting queues.exchange ≡ [] → waiting queues.sip ≡ [] → Opening (state_of state g queues)
   pub history : (queues : Outgoing) → Run (state_of state g queues) [] (state_of state g queues)
 
--- an effect can be settled at a place: the token is of the channel that the call holds then, what comes out is what is released
+-- an effect can be applied at a place: the token is of the channel that the call holds then, what comes out is what is released
 pub record Ready (places : List (Option Call)) (place : ℕ) (after : Option Call) (released : Option ℕ) (token : Option Token) : Type 0 where
   pub inside : place < 64
   pub enters : Enters (slice_index_or places place None) after token

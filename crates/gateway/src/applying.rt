@@ -1,4 +1,4 @@
-//! The one place where effects are settled.
+//! The one place where effects are applied.
 ghost use Rattle.std.specs.Prelude.{◌≡◌, ℕ, true};
 ghost use Rattle.calls.specs.Rules.{is_roomy, reported, freed, applied};
 ghost use Rattle.call_table.specs.Tokens.{token_channel};
