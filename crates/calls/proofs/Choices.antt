@@ -1,6 +1,7 @@
 -- There is always a fair choice, since pool and table are bounded.
 use Rattle.std.proofs.Common.{◌≡◌, ℕ, zero, suc, ◌<◌, ◌≤◌, Bool, true, false, ◌⊎◌, List, [], ◌∷◌, length, get_or, Some, None, Option, refl, ap, ◌∙◌, inl, inr, ⊎_elim, le_of_suc-le-suc, not-suc-le-zero, arith}
 use Rattle.std.proofs.lemmas.Bool.{cases_lt}
+use Rattle.std.proofs.lemmas.Bool.Decides.{nat_tests}
 use Rattle.pools.specs.States.{States, idle, known, AnyWasIdle}
 use Rattle.calls.specs.Records.{ChannelState, Call}
 use Rattle.calls.specs.Rules.{State, Choice, Fair, FreePlace}
@@ -24,12 +25,7 @@ abbrev pub Bounded : States → Type 0
 Bounded pool = (c : ℕ) → known (pool c) ≡ true → c ≤ 127
 
 above_busy : (pool : States) → Bounded pool → (c : ℕ) → 127 < c → idle (pool c) ≡ false
-above_busy pool h c l = go (pool c) refl
-  where
-    go : (x : ChannelState) → pool c ≡ x → idle x ≡ false
-    go ChannelState.Unknown e = refl
-    go ChannelState.Idle e = absurd (omega (arith, l, h c (ap known e)))
-    go ChannelState.Seized e = refl
+above_busy pool h c l = let known_below = h c in grind (arith, nat_tests)
 
 pub fair_pick : (pool : States) → Bounded pool → (o : Option ℕ) × AnyWasIdle o pool
 fair_pick pool h =

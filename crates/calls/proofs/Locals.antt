@@ -239,11 +239,7 @@ module _ (pool : States) (k : Call) (sound : sides_agree k.exchange k.sip ≡ tr
       moved_balanced pool NoneOfThese (λ t. refl) k k.digits _ _ (clears_law k _) (cancels_sip t k.sip h) (unseized_clears _) (left_agree _ (inl two))
 
   held_stage : (d : ℕ) (g : SipSide) → is_held_by d g ≡ true → (sip_stage g ≡ 2) ⊎ (sip_stage g ≡ 3)
-  held_stage d (SipSide.InviteUnanswered t y) h = inl refl
-  held_stage d (SipSide.Up y) h = inr refl
-  held_stage d SipSide.None h = absurd (grind arith)
-  held_stage d (SipSide.InviteSent x) h = absurd (grind arith)
-  held_stage d SipSide.CancelSent h = absurd (grind arith)
+  held_stage d g h = grind (arith, nat_tests)
 
   pub on_bye : (d : ℕ) → is_held_by d k.sip ≡ true → Balanced pool (Some k) (ABye d) (leaves k)
   on_bye d h =

@@ -82,9 +82,7 @@ takes taken (m ∷ ms) sent e = append_assoc taken (m ∷ []) ms ∙ e ∙ sym (
 
 -- ---------------------------------------------------------------- the channels of a step
 idle_is : (x : ChannelState) → idle x ≡ true → x ≡ ChannelState.Idle
-idle_is ChannelState.Unknown e = absurd (grind arith)
-idle_is ChannelState.Idle e = refl
-idle_is ChannelState.Seized e = absurd (grind arith)
+idle_is x e = grind (arith, nat_tests)
 
 -- what is shown of one channel
 taken_one : (s : States) (o : Option ℕ) (c : ℕ) → after_any o s c ≡ cond (equals_some c o) ChannelState.Seized (s c)
@@ -148,11 +146,7 @@ asked_now _ last = tt
 -- ---------------------------------------------------------------- a step
 -- what an unended dialogue says of the last step
 ended_cases : (b l c s u : Bool) → (not (b || l) && ((c || s) || u)) ≡ true → (b ≡ false) × (l ≡ false) × ((c ≡ true) ⊎ ((s ≡ true) ⊎ (u ≡ true)))
-ended_cases true l c s u e = absurd (grind arith)
-ended_cases false true c s u e = absurd (grind arith)
-ended_cases false false true s u e = (refl, refl, inl refl)
-ended_cases false false false true u e = (refl, refl, inr (inl refl))
-ended_cases false false false false u e = (refl, refl, inr (inr e))
+ended_cases b l c s u e = grind (arith, nat_tests)
 
 module _ (pool : States) (past : List Happening) (st : State) (v : Inv pool past st) (event : Event) where
   abbrev ev : Brought

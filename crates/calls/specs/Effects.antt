@@ -275,18 +275,32 @@ asks_for_another side cause = is_in ExchangeSide.SetupSent side && is_unavailabl
 abbrev pub completed : Option ℕ → Option Cause → Call → Effect
 completed pick cause k = if asks_for_another k.exchange cause then tries_again pick k else moved k (ends k []) (clears_sip k (status_for cause))
 
+-- the called party is alerted
+abbrev pub alerted : Call → Effect
+alerted k = moved k (enters k ExchangeSide.Ringing []) (responds Names.ringing k.sip)
+
+-- the call has come further, and its state stays
+abbrev pub progressed : Call → Effect
+progressed k = moved k (stays k []) (responds Names.session_progress k.sip)
+
+-- the called party answered
+abbrev pub connected : Call → Effect
+connected k = moved k (enters k ExchangeSide.Up (tell MessageType.ConnectAcknowledge k ∷ [])) (answers k.sip)
+
+-- a state is entered, and nothing is sent
+abbrev pub advanced : Call → ExchangeSide → Effect
+advanced k side = moved k (enters k side []) (keeps k)
+
 -- a message of each type; full is the length of a full number, pick an idle channel if there is one
 module _ (full : ℕ) (pick : Option ℕ) (m : Message DigitsPart) (k : Call) where
   abbrev pub on_type : MessageType → Result Effect Ground
-  on_type MessageType.Alerting =
-      only (from_to ExchangeSide.SetupSent ExchangeSide.ProceedingOutwards k.exchange) (moved k (enters k ExchangeSide.Ringing []) (responds Names.ringing k.sip))
-  on_type MessageType.CallProceeding = only (is_in ExchangeSide.SetupSent k.exchange) (moved k (enters k ExchangeSide.ProceedingOutwards []) (keeps k))
-  on_type MessageType.Progress = only (is_in ExchangeSide.ProceedingOutwards k.exchange) (moved k (stays k []) (responds Names.session_progress k.sip))
+  on_type MessageType.Alerting = only (from_to ExchangeSide.SetupSent ExchangeSide.ProceedingOutwards k.exchange) (alerted k)
+  on_type MessageType.CallProceeding = only (is_in ExchangeSide.SetupSent k.exchange) (advanced k ExchangeSide.ProceedingOutwards)
+  on_type MessageType.Progress = only (is_in ExchangeSide.ProceedingOutwards k.exchange) (progressed k)
   on_type MessageType.Setup = Err Ground.ReferenceInUse
-  on_type MessageType.Connect =
-      only (from_to ExchangeSide.SetupSent ExchangeSide.Ringing k.exchange) (moved k (enters k ExchangeSide.Up (tell MessageType.ConnectAcknowledge k ∷ [])) (answers k.sip))
+  on_type MessageType.Connect = only (from_to ExchangeSide.SetupSent ExchangeSide.Ringing k.exchange) (connected k)
   on_type MessageType.SetupAcknowledge = Err Ground.NotNow
-  on_type MessageType.ConnectAcknowledge = only (is_in ExchangeSide.ConnectSent k.exchange) (moved k (enters k ExchangeSide.Up []) (keeps k))
+  on_type MessageType.ConnectAcknowledge = only (is_in ExchangeSide.ConnectSent k.exchange) (advanced k ExchangeSide.Up)
   on_type MessageType.Disconnect = only (is_unreleased k.exchange) (disconnected k (status_for m.elements.cause))
   on_type MessageType.Release = Ok (released k (status_for m.elements.cause))
   on_type MessageType.ReleaseComplete = Ok (completed pick m.elements.cause k)

@@ -1,7 +1,6 @@
 //! A message from the exchange that finds its call.
-ghost use Rattle.std.specs.Prelude.{◌≡◌, ◌∷◌, []};
-ghost use Rattle.calls.specs.Effects.{moved, stays, enters, keeps, responds, answers, tell, tries_again, disconnected, released, asks_for_another, completed, on_type};
-ghost use Rattle.causes.specs.Names.{ringing, session_progress};
+ghost use Rattle.std.specs.Prelude.{◌≡◌};
+ghost use Rattle.calls.specs.Effects.{alerted, advanced, progressed, connected, tries_again, disconnected, released, asks_for_another, completed, on_type};
 ghost use Rattle.reader.specs.Seen.{seen_record};
 ghost use Rattle.effects.specs.Moves.{effect_of, decision_of};
 
@@ -20,7 +19,7 @@ use refusals::Ground;
 
 /// ALERTING: the called party is alerted.
 fn alerted(call: Call) -> Effect
-    ensures ringing_on_both_sides { effect_of result ≡ moved call (enters call ExchangeSide.Ringing []) (responds ringing call.sip) }
+    ensures ringing_on_both_sides { effect_of result ≡ alerted call }
 {
     moved(
         call,
@@ -31,14 +30,14 @@ fn alerted(call: Call) -> Effect
 
 /// CALL PROCEEDING or CONNECT ACKNOWLEDGE: a state is entered, and nothing is sent.
 fn advanced(call: Call, side: ExchangeSide) -> Effect
-    ensures nothing_sent { effect_of result ≡ moved call (enters call side []) (keeps call) }
+    ensures nothing_sent { effect_of result ≡ advanced call side }
 {
     moved(call, enters(call, side, Few::Zero), keeps(call))
 }
 
 /// PROGRESS: the state stays.
 fn progressed(call: Call) -> Effect
-    ensures session_progress { effect_of result ≡ moved call (stays call []) (responds session_progress call.sip) }
+    ensures session_progress { effect_of result ≡ progressed call }
 {
     moved(
         call,
@@ -49,7 +48,7 @@ fn progressed(call: Call) -> Effect
 
 /// CONNECT: the called party answered.
 fn connected(call: Call) -> Effect
-    ensures up_on_both_sides { effect_of result ≡ moved call (enters call ExchangeSide.Up (tell MessageType.ConnectAcknowledge call ∷ [])) (answers call.sip) }
+    ensures up_on_both_sides { effect_of result ≡ connected call }
 {
     let acknowledge = tell(MessageType::ConnectAcknowledge, call);
     moved(
