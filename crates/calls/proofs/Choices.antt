@@ -3,7 +3,7 @@ use Rattle.std.proofs.Common.{◌≡◌, ℕ, zero, suc, ◌<◌, ◌≤◌, Boo
 use Rattle.std.proofs.lemmas.Bool.{cases_lt}
 use Rattle.std.proofs.lemmas.Bool.Decides.{nat_tests}
 use Rattle.pools.specs.States.{States, idle, known, AnyWasIdle}
-use Rattle.calls.specs.Records.{ChannelState, Call}
+use Rattle.calls.specs.Records.{Call}
 use Rattle.calls.specs.Rules.{State, Choice, Fair, FreePlace}
 
 abbrev Busy : States → ℕ → Type 0

@@ -1,4 +1,3 @@
-pub mod Moves
 pub mod Balance
 pub mod Locals
 pub mod Places

@@ -10,9 +10,8 @@ use Rattle.calls.specs.Rules.{Event, State, Outcome, Refuse, Reply, Change, Took
 use Rattle.calls.specs.Run.{Happening, happened, Opening, Run, opened, stepped}
 use Rattle.calls.specs.Laws.{Laws, Brought, AnInvite, brought_by, invite_count, is_ok_on, is_bye_on, dialogue_after, seizures_of, releases_of, holders, owing, invites_taken, finals_sent, setups_taken, connects_sent, last_dialogue, is_unended, sends, Stands, exchange_sent, exchange_gone, sip_sent, sip_gone}
 use Rattle.std.specs.Option.{option_to_list}
-use Rattle.calls.proofs.Moves.{Linked}
 use Rattle.calls.specs.Standing.{Everywhere, sides_agree, SoundAt}
-use Rattle.calls.proofs.Balance.{Balanced, LinkedAt, PresentAt, talks_call, may_connect, Asked}
+use Rattle.calls.proofs.Balance.{Balanced, Linked, LinkedAt, PresentAt, talks, may_connect, Asked}
 use Rattle.calls.proofs.Places.{everywhere_at, everywhere_set, everywhere_none, sum_of_set, sum_of_none, sum_of_at, sum_of_le}
 use Rattle.calls.proofs.Steps.{Lawful, Fresh, lawful, spoken}
 
@@ -24,7 +23,7 @@ pub record Inv (pool : States) (past : List Happening) (st : State) : Type 0 whe
   pub free : (c : ℕ) → 0 < holders c st → pool c ≡ ChannelState.Idle
   pub invites_balance : (t : ℕ) → invites_taken t past ≡ finals_sent t past + owing t st
   pub owing_one : (t : ℕ) → owing t st ≤ 1
-  pub dialogue_goes_on : (d : ℕ) → is_unended d past ≡ true → 0 < sum_of (talks_call d) st.table
+  pub dialogue_goes_on : (d : ℕ) → is_unended d past ≡ true → 0 < sum_of (talks d) st.table
   pub linked : Everywhere (LinkedAt (last_dialogue past)) st.table
   pub connects_were_asked : (r : ℕ) → connects_sent r past + sum_of (may_connect r) st.table ≤ setups_taken r past
   pub sound : Everywhere SoundAt st.table
@@ -39,7 +38,7 @@ seized_held p q h o e i s = grind (arith, nat_tests)
 held_seized : (p q : ChannelState) (h : ℕ) → q ≡ cond (eqb h 0) p ChannelState.Seized → h ≡ 1 → q ≡ ChannelState.Seized
 held_seized p q h e o = grind (arith, nat_tests)
 
-talks_keeps : (d : ℕ) (k : Call) → talks_call d k ≤ one_if (holds_dialogue d k)
+talks_keeps : (d : ℕ) (k : Call) → talks d k ≤ one_if (holds_dialogue d k)
 talks_keeps d k = grind (arith, nat_tests)
 
 proceeds_while_out : (k : Call) → sides_agree k.exchange k.sip ≡ true → is_invite_sent k.sip ≡ true → is_in ExchangeSide.Proceeding k.exchange ≡ true
@@ -58,7 +57,7 @@ inv_laws pool past st v =
       held_is_seized = λ c i o. held_seized (pool c) (st.pool c) (holders c st) (v.shows c) o;
       invites_balance = v.invites_balance;
       one_owing = v.owing_one;
-      unended_is_held = λ d e. omega (arith, v.dialogue_goes_on d e, sum_of_le (talks_call d) (λ k. one_if (holds_dialogue d k)) (talks_keeps d) st.table);
+      unended_is_held = λ d e. omega (arith, v.dialogue_goes_on d e, sum_of_le (talks d) (λ k. one_if (holds_dialogue d k)) (talks_keeps d) st.table);
       connects_were_asked = λ r. omega (arith, v.connects_were_asked r);
       calls_stand = stands_at st.table v.sound v.present;
       exchange_sent_in_order = v.exchange_queue;
@@ -168,14 +167,14 @@ module _ (pool : States) (past : List Happening) (st : State) (v : Inv pool past
   last = next ev (last_dialogue past)
 
   module _ (ms : List (Message Digits)) (ss : List SipMessage) (f : Fresh st ev) (b : Balanced st.pool None ev (spoken ms ss)) where
-    replied_talks : (d : ℕ) → is_unended d (happened st event (Reply ms ss) ∷ past) ≡ true → 0 < sum_of (talks_call d) st.table
+    replied_talks : (d : ℕ) → is_unended d (happened st event (Reply ms ss) ∷ past) ≡ true → 0 < sum_of (talks d) st.table
     replied_talks d e =
         let w = ended_cases (bye_in d ss) (is_bye_on d ev) (is_ok_on d ev) (sends d last ss) (is_unended d past) e in
-        ⊎_elim (λ c. absurd (omega (arith, b.dialogue_opens d c w.0))) (⊎_elim (λ s. absurd (omega (arith, b.dialogue_opens_by_ours last d tt s))) (v.dialogue_goes_on d)) w.2
+        ⊎_elim (λ c. absurd (omega (arith, (b.dialogues d w.0).1 c))) (⊎_elim (λ s. absurd (omega (arith, (b.answered last tt).0 d s))) (v.dialogue_goes_on d)) w.2
 
     replied : Inv pool (happened st event (Reply ms ss) ∷ past) (settled st (Reply ms ss))
     replied =
-        record { counts = λ c. omega (arith, v.counts c); one = v.one; shows = v.shows; free = v.free; invites_balance = λ t. omega (arith, v.invites_balance t, b.invites_balance t); owing_one = v.owing_one; dialogue_goes_on = replied_talks; linked = links ev (last_dialogue past) st.table f v.linked; connects_were_asked = λ x. omega (arith, v.connects_were_asked x, b.connects_were_asked x); sound = v.sound; present = v.present; exchange_queue = puts (exchange_gone past) st.exchange (exchange_sent past) v.exchange_queue ms; sip_queue = puts (sip_gone past) st.sip (sip_sent past) v.sip_queue ss }
+        record { counts = λ c. omega (arith, v.counts c); one = v.one; shows = v.shows; free = v.free; invites_balance = λ t. omega (arith, v.invites_balance t, b.invites t); owing_one = v.owing_one; dialogue_goes_on = replied_talks; linked = links ev (last_dialogue past) st.table f v.linked; connects_were_asked = λ x. omega (arith, v.connects_were_asked x, b.connects x); sound = v.sound; present = v.present; exchange_queue = puts (exchange_gone past) st.exchange (exchange_sent past) v.exchange_queue ms; sip_queue = puts (sip_gone past) st.sip (sip_sent past) v.sip_queue ss }
 
   module _ (i : ℕ) (e : Effect) (f : Fresh st ev) (inside : i < length st.table) (b : Balanced st.pool (get_or st.table i None) ev e) where
     abbrev old : Option Call
@@ -188,17 +187,17 @@ module _ (pool : States) (past : List Happening) (st : State) (v : Inv pool past
     changed g = sum_of_set g st.table i e.after inside
 
     level : (c : ℕ) → named c e.seized + holders c st ≡ named c e.released + sum_of (holds c) after
-    level c = omega (arith, changed (holds c), b.seizures_balance c)
+    level c = omega (arith, changed (holds c), (b.channels c).0)
 
     was_idle : (c : ℕ) → named c e.seized ≡ 1 → st.pool c ≡ ChannelState.Idle
-    was_idle c h = idle_is (st.pool c) (b.idle c h)
+    was_idle c h = idle_is (st.pool c) ((b.channels c).1 h)
 
     moved_one : (c : ℕ) → sum_of (holds c) after ≤ 1
     moved_one c = pool_one (equals_some c e.seized) (equals_some c e.released) (holders c st) (sum_of (holds c) after) (level c) (pool_none (equals_some c e.seized) (st.pool c) (pool c) (holders c st) (was_idle c) (v.shows c)) (v.one c)
 
     moved_owing : (t : ℕ) → sum_of (owes t) after ≤ 1
     moved_owing t =
-        ⊎_elim (λ z. omega (arith, z, v.owing_one t, changed (owes t), b.invites_balance t)) (λ z. omega (arith, z, f t z, changed (owes t), b.invites_balance t, sum_of_at (owes t) st.table i)) (none_or_one (invite_count t ev) (invite_count_le t ev))
+        ⊎_elim (λ z. omega (arith, z, v.owing_one t, changed (owes t), b.invites t)) (λ z. omega (arith, z, f t z, changed (owes t), b.invites t, sum_of_at (owes t) st.table i)) (none_or_one (invite_count t ev) (invite_count_le t ev))
 
     relinked : Everywhere (LinkedAt last) st.table
     relinked = links ev (last_dialogue past) st.table f v.linked
@@ -206,27 +205,27 @@ module _ (pool : States) (past : List Happening) (st : State) (v : Inv pool past
     old_linked : LinkedAt last old
     old_linked = everywhere_at (LinkedAt last) tt st.table i relinked
 
-    moved_talks : (d : ℕ) → is_unended d (happened st event (Change i e) ∷ past) ≡ true → 0 < sum_of (talks_call d) after
+    moved_talks : (d : ℕ) → is_unended d (happened st event (Change i e) ∷ past) ≡ true → 0 < sum_of (talks d) after
     moved_talks d h =
         let w = ended_cases (bye_in d e.sip) (is_bye_on d ev) (is_ok_on d ev) (sends d last e.sip) (is_unended d past) h in
-        let step = changed (talks_call d) in
-        let low = sum_of_at (talks_call d) st.table i in
-        ⊎_elim (λ c. omega (arith, b.dialogue_opens d c w.0, step, low)) (⊎_elim (λ s. omega (arith, b.dialogue_opens_by_ours last d old_linked s, step, low)) (λ u. omega (arith, v.dialogue_goes_on d u, b.dialogue_goes_on d w.0 w.1, step))) w.2
+        let step = changed (talks d) in
+        let low = sum_of_at (talks d) st.table i in
+        ⊎_elim (λ c. omega (arith, (b.dialogues d w.0).1 c, step, low)) (⊎_elim (λ s. omega (arith, (b.answered last old_linked).0 d s, step, low)) (λ u. omega (arith, v.dialogue_goes_on d u, (b.dialogues d w.0).0 w.1, step))) w.2
 
     moves : Inv pool (happened st event (Change i e) ∷ past) (settled st (Change i e))
     moves =
         record {
-          counts = λ c. omega (arith, v.counts c, changed (holds c), b.seizures_balance c);
+          counts = λ c. omega (arith, v.counts c, changed (holds c), (b.channels c).0);
           one = moved_one;
           shows = λ c. freed_one (after_any e.seized st.pool) e.released c ∙ pool_shows (equals_some c e.seized) (equals_some c e.released) (st.pool c) (pool c) (holders c st) (sum_of (holds c) after) (level c) (was_idle c) (v.one c) (v.shows c) (v.free c) _ (taken_one st.pool e.seized c);
           free = λ c. pool_free (equals_some c e.seized) (equals_some c e.released) (st.pool c) (pool c) (holders c st) (sum_of (holds c) after) (level c) (was_idle c) (v.one c) (v.shows c) (v.free c);
-          invites_balance = λ t. omega (arith, v.invites_balance t, changed (owes t), b.invites_balance t);
+          invites_balance = λ t. omega (arith, v.invites_balance t, changed (owes t), b.invites t);
           owing_one = moved_owing;
           dialogue_goes_on = moved_talks;
-          linked = everywhere_set (LinkedAt last) st.table i e.after relinked (b.linked last (asked_now ev (last_dialogue past)) old_linked);
-          connects_were_asked = λ x. omega (arith, v.connects_were_asked x, changed (may_connect x), b.connects_were_asked x);
-          sound = everywhere_set SoundAt st.table i e.after v.sound b.sound;
-          present = everywhere_set PresentAt st.table i e.after v.present b.present;
+          linked = everywhere_set (LinkedAt last) st.table i e.after relinked ((b.answered last old_linked).1 (asked_now ev (last_dialogue past)));
+          connects_were_asked = λ x. omega (arith, v.connects_were_asked x, changed (may_connect x), b.connects x);
+          sound = everywhere_set SoundAt st.table i e.after v.sound b.stands.0;
+          present = everywhere_set PresentAt st.table i e.after v.present b.stands.1;
           exchange_queue = puts (exchange_gone past) st.exchange (exchange_sent past) v.exchange_queue e.exchange;
           sip_queue = puts (sip_gone past) st.sip (sip_sent past) v.sip_queue e.sip;
         }

@@ -8,14 +8,13 @@ use Rattle.pools.specs.States.{States, idle, AnyWasIdle}
 use Rattle.std.proofs.lemmas.Bool.{cond_both, and_parts}
 use Rattle.messages.specs.Reading.{decoded}
 use Rattle.messages.specs.Types.{is_setup}
-use Rattle.calls.specs.Sides.{is_over, awaits_response, owes, holds_dialogue, sum_of, one_if, named}
+use Rattle.calls.specs.Sides.{is_over, awaits_response, owes, holds_dialogue, sum_of, one_if, named, connects_in}
 use Rattle.calls.specs.Effects.{Effect, called_digits, is_whole, misdialled, cause_for, on_expiry, on_cancel_expiry, ack_and_bye, leaves, begins_proceeding, begins_collecting, begins, invited}
 use Rattle.calls.specs.Rules.{Event, Exchange, Invite, Cancel, Bye, Response, Expiry, CancelExpiry, TakeExchange, TakeSip, State, Choice, Fair, FreePlace, Outcome, Refuse, Reply, Change, TookExchange, TookSip, seek, by_reference, by_number, by_live_number, by_awaited_number, by_transaction, at, at_call, rejects, granted, seated, admitted, on_setup, turned_away, uncalled, on_message, replies, calls_out, dialling_status, unless_answered, on_invite, another, on_ok, accepted, on_other, is_other_success, on_response, is_roomy, roomed, on_octets, is_status, outcome}
 use Rattle.calls.specs.Laws.{Brought, ASetup, AnInvite, AnOk, ABye, NoneOfThese, brought_by_octets, brought_by, setup_count, invite_count}
-use Rattle.calls.proofs.Moves.{Quiet, Mute}
 use Rattle.calls.specs.Standing.{Everywhere, sides_agree, SoundAt}
-use Rattle.calls.proofs.Balance.{Balanced, Uninvited}
-use Rattle.calls.proofs.Locals.{Keeps, on_type_lem, on_expiry_lem, on_cancel_expiry_lem, on_cancel, on_bye, on_accept, on_fail, on_provisional}
+use Rattle.calls.proofs.Balance.{Balanced, Uninvited, Quiet}
+use Rattle.calls.proofs.Locals.{Keeps, on_type_keeps, on_expiry_keeps, on_cancel_expiry_keeps, cancel_keeps, bye_keeps, accepting, failing, provisional_keeps}
 use Rattle.calls.proofs.Places.{everywhere_at, Finds, Misses, seek_tells}
 
 -- the effect of an answer that touches no call
@@ -37,21 +36,17 @@ fresh : (st : State) (ev : Brought) → Uninvited ev → Fresh st ev
 fresh st ev u t e = absurd (omega (arith, u t, e))
 
 -- ---------------------------------------------------------------- answers without a call
-spoken_balanced : (pool : States) (ev : Brought) → Uninvited ev → Quiet ev → (ms : List (Message Digits)) → Mute ms → Balanced pool None ev (spoken ms [])
-spoken_balanced pool ev u q ms mute =
-    record { seizures_balance = λ c. refl; idle = λ c e. absurd (omega arith); invites_balance = λ t. omega (arith, u t); connects_were_asked = λ r. omega (arith, mute r); dialogue_goes_on = λ d x y. omega arith; dialogue_opens = λ d x y. absurd (let z = q d in grind arith); dialogue_opens_by_ours = λ last d x y. absurd (grind arith); linked = λ last x y. tt; sound = refl; present = tt }
+spoken_balanced : (pool : States) (ev : Brought) → Uninvited ev → Quiet ev → (ms : List (Message Digits)) → ((r : ℕ) → connects_in r ms ≡ 0) → Balanced pool None ev (spoken ms [])
+spoken_balanced pool ev u q ms mute = grind (arith, nat_tests)
 
 answered_balanced : (pool : States) (t d s : ℕ) → Names.first_failure ≤ s → s ≤ Names.last_status → Balanced pool None (AnInvite t d) (spoken [] (SipMessage.Response t s ∷ []))
-answered_balanced pool t d s lo hi =
-    record { seizures_balance = λ c. refl; idle = λ c e. absurd (omega arith); invites_balance = λ t. grind (arith, nat_tests); connects_were_asked = λ r. omega arith; dialogue_goes_on = λ d x y. omega arith; dialogue_opens = λ d x y. absurd (grind arith); dialogue_opens_by_ours = λ last d x y. absurd (grind (arith, nat_tests)); linked = λ last x y. tt; sound = refl; present = tt }
+answered_balanced pool t d s lo hi = grind (arith, nat_tests)
 
 declined_balanced : (pool : States) (n d : ℕ) → Balanced pool None (AnOk d) (spoken [] (ack_and_bye n d))
-declined_balanced pool n d =
-    record { seizures_balance = λ c. refl; idle = λ c e. absurd (omega arith); invites_balance = λ t. refl; connects_were_asked = λ r. omega arith; dialogue_goes_on = λ d x y. omega arith; dialogue_opens = λ d x y. absurd (grind (arith, nat_tests)); dialogue_opens_by_ours = λ last d x y. absurd (grind (arith, nat_tests)); linked = λ last x y. tt; sound = refl; present = tt }
+declined_balanced pool n d = grind (arith, nat_tests)
 
 acked_balanced : (pool : States) (n d : ℕ) → Balanced pool None NoneOfThese (spoken [] (SipMessage.Ack n d ∷ []))
-acked_balanced pool n d =
-    record { seizures_balance = λ c. refl; idle = λ c e. absurd (omega arith); invites_balance = λ t. refl; connects_were_asked = λ r. omega arith; dialogue_goes_on = λ d x y. omega arith; dialogue_opens = λ d x y. absurd (grind arith); dialogue_opens_by_ours = λ last d x y. absurd (grind (arith, nat_tests)); linked = λ last x y. tt; sound = refl; present = tt }
+acked_balanced pool n d = grind (arith, nat_tests)
 
 -- ---------------------------------------------------------------- new calls
 picked : (pool : States) (c : ℕ) → idle (pool c) ≡ true → (x : ℕ) → named x (Some c) ≡ 1 → idle (pool x) ≡ true
@@ -63,19 +58,16 @@ Brings ev m = (r : ℕ) → setup_count r ev ≡ one_if (eqb m.reference.number 
 
 module _ (pool : States) (ev : Brought) (u : Uninvited ev) (q : Quiet ev) (m : Message DigitsPart) (b : Brings ev m) (n c : ℕ) (i : idle (pool c) ≡ true) where
   proceeding_balanced : Balanced pool None ev (begins_proceeding m n c)
-  proceeding_balanced =
-      record { seizures_balance = λ x. grind (arith, nat_tests); idle = picked pool c i; invites_balance = λ t. omega (arith, u t); connects_were_asked = λ r. (let z = b r in grind (arith, nat_tests)); dialogue_goes_on = λ d x y. omega arith; dialogue_opens = λ d x y. absurd (let z = q d in grind arith); dialogue_opens_by_ours = λ last d x y. absurd (grind (arith, nat_tests)); linked = λ last x y. tt; sound = refl; present = refl }
+  proceeding_balanced = grind (arith, nat_tests)
 
   collecting_balanced : Balanced pool None ev (begins_collecting m n c)
-  collecting_balanced =
-      record { seizures_balance = λ x. grind (arith, nat_tests); idle = picked pool c i; invites_balance = λ t. omega (arith, u t); connects_were_asked = λ r. (let z = b r in grind (arith, nat_tests)); dialogue_goes_on = λ d x y. omega arith; dialogue_opens = λ d x y. absurd (let z = q d in grind arith); dialogue_opens_by_ours = λ last d x y. absurd (grind (arith, nat_tests)); linked = λ last x y. tt; sound = refl; present = refl }
+  collecting_balanced = grind (arith, nat_tests)
 
   begins_balanced : (full : ℕ) → Balanced pool None ev (begins full m n c)
   begins_balanced full = cond_both (is_whole full m.elements.complete (length (called_digits m))) _ _ (Balanced pool None ev) (λ _. proceeding_balanced) (λ _. collecting_balanced)
 
 invited_balanced : (pool : States) (t d : ℕ) (xs : List ℕ) (c : ℕ) → idle (pool c) ≡ true → Balanced pool None (AnInvite t d) (invited t d xs c)
-invited_balanced pool t d xs c i =
-    record { seizures_balance = λ x. grind (arith, nat_tests); idle = picked pool c i; invites_balance = λ t. grind (arith, nat_tests); connects_were_asked = λ r. grind (arith, nat_tests); dialogue_goes_on = λ d x y. omega arith; dialogue_opens = λ d x y. absurd (grind arith); dialogue_opens_by_ours = λ last d x y. absurd (grind (arith, nat_tests)); linked = λ last x y. x; sound = refl; present = refl }
+invited_balanced pool t d xs c i = grind (arith, nat_tests)
 
 -- ---------------------------------------------------------------- the steps
 abbrev Free : State → ℕ → Type 0
@@ -154,7 +146,7 @@ module _ (st : State) (ev : Brought) (u : Uninvited ev) (q : Quiet ev) (m : Mess
     message_lawful ch fair s None h = uncalled_lawful ch fair m.kind refl
     message_lawful ch fair s (Some x) h =
         at_lawful st ev _ x _ (fresh st ev u) h
-        (on_type_lem st.pool ev u q x.call (sound_at st _ x s h) (live_by m.reference x.call h.matches) st.full ch.pick fair.pick m m.kind)
+        (on_type_keeps st.pool ev u q x.call (sound_at st _ x s h) (live_by m.reference x.call h.matches) st.full ch.pick fair.pick m m.kind)
 
 module _ (st : State) (s : Everywhere SoundAt st.table) where
   owes_misses : (t : ℕ) (k : Call) → by_transaction t k ≡ false → owes t k ≡ 0
@@ -194,13 +186,13 @@ module _ (st : State) (s : Everywhere SoundAt st.table) where
   module _ (n d : ℕ) where
     ok_lawful : (r : Option Found) → MatchOption r (Misses (by_live_number n) st.table) (Finds (by_live_number n) st.table) → Lawful st (AnOk d) (on_ok n d r)
     ok_lawful None h = (fresh st (AnOk d) (λ t. refl), declined_balanced st.pool n d)
-    ok_lawful (Some x) h = changes_at st _ _ x _ (fresh st (AnOk d) (λ t. refl)) h (on_accept st.pool x.call (sound_at st _ x s h) n d x.call.sip refl)
+    ok_lawful (Some x) h = changes_at st _ _ x _ (fresh st (AnOk d) (λ t. refl)) h (accepting st.pool x.call (sound_at st _ x s h) n d x.call.sip refl)
 
     other_keeps : (v : ℕ) (media : Bool) (k : Call) → sides_agree k.exchange k.sip ≡ true → by_awaited_number n k ≡ true → Balanced st.pool (Some k) NoneOfThese (on_other v media k)
     other_keeps v media k good h =
         cond_both (leb Names.first_failure v) _ _ (Balanced st.pool (Some k) NoneOfThese)
-        (λ _. on_fail st.pool NoneOfThese (λ t. refl) (λ d. refl) k good (cause_for v) (and_parts (by_number n k) (awaits_response k.sip) h).1)
-        (λ _. on_provisional st.pool NoneOfThese (λ t. refl) (λ d. refl) k good v media k.sip refl)
+        (λ _. failing st.pool NoneOfThese (λ t. refl) (λ d. refl) k good (cause_for v) (and_parts (by_number n k) (awaits_response k.sip) h).1)
+        (λ _. provisional_keeps st.pool NoneOfThese (λ t. refl) (λ d. refl) k good v media k.sip refl)
 
     response_lawful : (v : ℕ) (media : Bool) → Lawful st (brought_by (Response n v d media)) (on_response st.table n v d media)
     response_lawful v media = by_status (eqb v _)
@@ -236,10 +228,10 @@ module _ (st : State) (s : Everywhere SoundAt st.table) where
   pub lawful : (ch : Choice) → Fair st ch → (ev : Event) → Lawful st (brought_by ev) (outcome st ch ev)
   lawful ch fair (Exchange xs) = octets_lawful ch fair (decoded xs)
   lawful ch fair (Invite t d xs) = roomed_lawful (AnInvite t d) _ (invite_lawful ch fair t d xs _ (seek (holds_dialogue d) st.table) (seek_tells (by_transaction t) st.table))
-  lawful ch fair (Cancel t) = uncounted (by_transaction t) (λ k. Ok (leaves k)) (λ k good h. on_cancel st.pool k good t h)
-  lawful ch fair (Bye d) = roomed_lawful (ABye d) _ (called st s (ABye d) (λ t. refl) (holds_dialogue d) (λ k. Ok (leaves k)) (λ k good h. on_bye st.pool k good d h) _ (seek_tells (holds_dialogue d) st.table))
+  lawful ch fair (Cancel t) = uncounted (by_transaction t) (λ k. Ok (leaves k)) (λ k good h. cancel_keeps st.pool k good t h)
+  lawful ch fair (Bye d) = roomed_lawful (ABye d) _ (called st s (ABye d) (λ t. refl) (holds_dialogue d) (λ k. Ok (leaves k)) (λ k good h. bye_keeps st.pool k good d h) _ (seek_tells (holds_dialogue d) st.table))
   lawful ch fair (Response n v d media) = cond_both (is_status v) _ _ (Lawful st (brought_by (Response n v d media))) (λ _. roomed_lawful _ _ (response_lawful n d v media)) (λ _. tt)
-  lawful ch fair (Expiry t r) = uncounted (by_reference r) (on_expiry t) (λ k good h. on_expiry_lem st.pool NoneOfThese (λ t. refl) (λ d. refl) k good (live_by r k h) t)
-  lawful ch fair (CancelExpiry n) = uncounted (by_number n) on_cancel_expiry (λ k good h. on_cancel_expiry_lem st.pool NoneOfThese (λ t. refl) (λ d. refl) k good)
+  lawful ch fair (Expiry t r) = uncounted (by_reference r) (on_expiry t) (λ k good h. on_expiry_keeps st.pool NoneOfThese (λ t. refl) (λ d. refl) k good (live_by r k h) t)
+  lawful ch fair (CancelExpiry n) = uncounted (by_number n) on_cancel_expiry (λ k good h. on_cancel_expiry_keeps st.pool NoneOfThese (λ t. refl) (λ d. refl) k good)
   lawful ch fair TakeExchange = tt
   lawful ch fair TakeSip = tt

@@ -253,9 +253,13 @@ abbrev pub collects : ℕ → Bool → Call → Option Digits → Effect
 collects full complete k None = spurns k k.digits
 collects full complete k (Some ds) = dials full complete k ds
 
+-- the exchange side ends, and SIP is cleared with this status
+abbrev pub ended : Call → ℕ → Effect
+ended k s = moved k (ends k []) (clears_sip k s)
+
 -- another channel is tried, if one was idle
 abbrev pub tries_again : Option ℕ → Call → Effect
-tries_again None k = moved k (ends k []) (clears_sip k Names.service_unavailable)
+tries_again None k = ended k Names.service_unavailable
 tries_again (Some c) k = moved k (retries k c) (keeps k)
 
 -- the exchange clears: RELEASE, and the channel is held until its end
@@ -273,7 +277,7 @@ asks_for_another side cause = is_in ExchangeSide.SetupSent side && is_unavailabl
 
 -- the exchange has released
 abbrev pub completed : Option ℕ → Option Cause → Call → Effect
-completed pick cause k = if asks_for_another k.exchange cause then tries_again pick k else moved k (ends k []) (clears_sip k (status_for cause))
+completed pick cause k = if asks_for_another k.exchange cause then tries_again pick k else ended k (status_for cause)
 
 -- the called party is alerted
 abbrev pub alerted : Call → Effect

@@ -1,6 +1,6 @@
 //! A message from the exchange that finds its call.
 ghost use Rattle.std.specs.Prelude.{◌≡◌};
-ghost use Rattle.calls.specs.Effects.{alerted, advanced, progressed, connected, tries_again, disconnected, released, asks_for_another, completed, on_type};
+ghost use Rattle.calls.specs.Effects.{alerted, advanced, progressed, connected, tries_again, disconnected, ended, released, asks_for_another, completed, on_type};
 ghost use Rattle.reader.specs.Seen.{seen_record};
 ghost use Rattle.effects.specs.Moves.{effect_of, decision_of};
 
@@ -90,17 +90,20 @@ fn released(call: Call, status: u16) -> Effect
     }
 }
 
+/// The exchange side is over, and SIP is cleared with this status.
+fn ended(call: Call, status: u16) -> Effect
+    ensures over_and_sip_cleared { effect_of result ≡ ended call status }
+{
+    moved(call, ends(call, Few::Zero), clears_sip(call, status))
+}
+
 /// The channel is not available: another is tried, if one was idle.
 pub fn tries_again(pick: Option<u8>, call: Call) -> Effect
     ensures another_channel_or_none { effect_of result ≡ tries_again pick call }
 {
     match pick {
         Some(channel) => moved(call, retries(call, channel), keeps(call)),
-        None => moved(
-            call,
-            ends(call, Few::Zero),
-            clears_sip(call, SERVICE_UNAVAILABLE),
-        ),
+        None => ended(call, SERVICE_UNAVAILABLE),
     }
 }
 
@@ -118,11 +121,7 @@ fn completed(pick: Option<u8>, cause: Option<Cause>, call: Call) -> Effect
     if asks_for_another(call.exchange, cause) {
         tries_again(pick, call)
     } else {
-        moved(
-            call,
-            ends(call, Few::Zero),
-            clears_sip(call, status_for(cause)),
-        )
+        ended(call, status_for(cause))
     }
 }
 

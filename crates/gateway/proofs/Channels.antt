@@ -49,8 +49,8 @@ unseized (Some x) h = absurd (h x (let e = same x in grind (arith, nat_tests)))
 -- where no channel is idle, what the rules make of an event seizes none
 pub possible : (st : State) → length st.table ≡ 64 → ((c : ℕ) → idle (st.pool c) ≡ false) → (ev : Brought) (o : Outcome) → Lawful st ev o → Possible st.table o
 possible st len busy ev (Change i e) l =
-    let none = unseized e.seized (λ c h. (let w = l.2.idle c h in let b = busy c in grind (arith, nat_tests))) in
-    (ready_kept st.table i e len l.1 l.2.seizures_balance none l.2.sound, none)
+    let none = unseized e.seized (λ c h. (let w = (l.2.channels c).1 h in let b = busy c in grind (arith, nat_tests))) in
+    (ready_kept st.table i e len l.1 (λ c. (l.2.channels c).0) none l.2.stands.0, none)
 possible st len busy ev (Refuse r) l = tt
 possible st len busy ev (Reply ms ss) l = tt
 possible st len busy ev TookExchange l = tt

@@ -1,18 +1,18 @@
 -- Effects that enter a seized channel, and what the wish for one gets.
 use Rattle.std.proofs.Common.{◌≡◌, ℕ, ◌<◌, Bool, true, false, cond, List, length, get_or, Some, None, Ok, Err, Option, Result, sym, refl, ap, ◌∙◌, subst, arith}
-use Rattle.std.proofs.lemmas.Bool.{cond-false, cond_both, eqb-true}
+use Rattle.std.proofs.lemmas.Bool.{cond-false, cond_both}
 use Rattle.std.proofs.lemmas.Bool.Decides.{nat_tests}
 use Rattle.gateway.specs.Records.{Ground, Channel, Message, Call, ExchangeSide, Token}
 use Rattle.messages.specs.Elements.{DigitsPart}
 use Rattle.pools.specs.States.{States, idle, AnyWasIdle}
-use Rattle.calls.specs.Sides.{stage, is_in, is_over}
+use Rattle.calls.specs.Sides.{is_in, is_over}
 use Rattle.calls.specs.Standing.{is_sound, sides_agree, SoundAt}
 use Rattle.calls.specs.Effects.{Effect, misdialled, tries_again, on_type, begins, is_whole, called_digits}
 use Rattle.calls.specs.Rules.{State, at, granted, seated, admitted, on_setup}
 use Rattle.calls.specs.Laws.{NoneOfThese}
 use Rattle.calls.proofs.Choices.{Bounded, fair_pick}
 use Rattle.calls.proofs.Balance.{Balanced}
-use Rattle.calls.proofs.Locals.{Keeps, tries_again_lem, on_type_lem}
+use Rattle.calls.proofs.Locals.{Keeps, trying_again, on_type_keeps}
 use Rattle.calls.proofs.Places.{everywhere_at}
 use Rattle.calls.proofs.Sounds.{sound_everywhere}
 use Rattle.call_table.specs.Tokens.{token_channel, token_of}
@@ -30,7 +30,7 @@ module _ (st : State) (len : length st.table ≡ 64) (sound : is_sound st.table 
   placed : (pool : States) (e : Effect) → Balanced pool (Some k) NoneOfThese e → e.seized ≡ None → Ready st.table i e.after e.released None
   placed pool e b none =
       let z = subst (λ (o : Option Call). Balanced pool o NoneOfThese e) (sym here) b in
-      ready_kept st.table i e len (omega (arith, len, inside)) z.seizures_balance none z.sound
+      ready_kept st.table i e len (omega (arith, len, inside)) (λ c. (z.channels c).0) none z.stands.0
 
   again_some : (t : Token) → SoundAt (tries_again (Some t.channel) k).after → is_over k.exchange ≡ false → Ready st.table i (tries_again (Some t.channel) k).after (tries_again (Some t.channel) k).released (Some t)
   again_some t s live =
@@ -43,24 +43,23 @@ module _ (st : State) (len : length st.table ≡ 64) (sound : is_sound st.table 
 
   -- SETUP again on another channel, or both sides end
   pub ready_again : is_in ExchangeSide.SetupSent k.exchange ≡ true → (token : Option Token) → AnyWasIdle (token_channel token) st.pool → Ready st.table i (tries_again (token_channel token) k).after (tries_again (token_channel token) k).released token
-  ready_again waits None h =
-      let five : stage k.exchange ≡ 5 = eqb-true _ _ waits in
+  ready_again waits token h =
       let live : is_over k.exchange ≡ false = grind (arith, nat_tests) in
-      placed st.pool (tries_again None k) (tries_again_lem st.pool NoneOfThese (λ t. refl) (λ d. refl) k sound_call live None h (omega arith)) refl
-  ready_again waits (Some t) h =
-      let five : stage k.exchange ≡ 5 = eqb-true _ _ waits in
-      let live : is_over k.exchange ≡ false = grind (arith, nat_tests) in
-      again_some t (tries_again_lem st.pool NoneOfThese (λ t. refl) (λ d. refl) k sound_call live (Some t.channel) h (omega arith)).sound live
+      let kept = trying_again st.pool NoneOfThese (λ t. refl) (λ d. refl) k sound_call live (token_channel token) h waits in again token kept live
+    where
+      again : (token : Option Token) → Balanced st.pool (Some k) NoneOfThese (tries_again (token_channel token) k) → is_over k.exchange ≡ false → Ready st.table i (tries_again (token_channel token) k).after (tries_again (token_channel token) k).released token
+      again None b live = placed st.pool (tries_again None k) b refl
+      again (Some t) b live = again_some t b.stands.0 live
 
   ruled : (r : Result Effect Ground) → Keeps all_unknown k NoneOfThese r → Possible st.table (at i r)
   ruled (Err ground) b = tt
   ruled (Ok e) b =
-      let none = unseized e.seized (λ c h. (let w = b.idle c h in grind (arith, nat_tests))) in
+      let none = unseized e.seized (λ c h. (let w = (b.channels c).1 h in grind (arith, nat_tests))) in
       (placed all_unknown e b none, none)
 
   -- a message that asks for no other channel
   pub possible_at : is_over k.exchange ≡ false → (full : ℕ) (m : Message DigitsPart) → Possible st.table (at i (on_type full None m k m.kind))
-  possible_at live full m = ruled (on_type full None m k m.kind) (on_type_lem all_unknown NoneOfThese (λ t. refl) (λ d. refl) k sound_call live full None (λ c. refl) m m.kind)
+  possible_at live full m = ruled (on_type full None m k m.kind) (on_type_keeps all_unknown NoneOfThese (λ t. refl) (λ d. refl) k sound_call live full None (λ c. refl) m m.kind)
 
 -- what a retry seizes is what was picked
 pub again_seizes : (pick : Option ℕ) (k : Call) → (tries_again pick k).seized ≡ pick
