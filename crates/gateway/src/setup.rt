@@ -26,13 +26,21 @@ pub(crate) struct NewCall {
     pub(crate) token: Token,
 }
 
-/// The token that the wish for a channel gets.
+/// The token that a wish for this channel gets.
+fn seize_as_wished<P: Pool>(trunk: &mut Trunk<P>, wish: Channel) -> Option<Token>
+    ensures the_wished_or_any_or_none { Granted (P.Pool.state trunk.old.pool) (Some wish) (token_channel result) }
+    ensures seizes_it_alone { (k : ℕ) → P.Pool.state trunk.new.pool k ≡ after_any (token_channel result) (P.Pool.state trunk.old.pool) k }
+{
+    trunk.seize_wished(wish)
+}
+
+/// The token that a SETUP gets by its wish for a channel, or without one.
 fn seize_for<P: Pool>(trunk: &mut Trunk<P>, wish: Option<Channel>) -> Option<Token>
     ensures the_wished_or_any_or_none { Granted (P.Pool.state trunk.old.pool) wish (token_channel result) }
     ensures seizes_it_alone { (k : ℕ) → P.Pool.state trunk.new.pool k ≡ after_any (token_channel result) (P.Pool.state trunk.old.pool) k }
 {
     match wish {
-        Some(wish) => trunk.seize_wished(wish),
+        Some(wish) => seize_as_wished(trunk, wish),
         None => trunk.seize_any(),
     }
 }
