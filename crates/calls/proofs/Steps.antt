@@ -49,9 +49,6 @@ acked_balanced : (pool : States) (n d : ℕ) → Balanced pool None NoneOfThese 
 acked_balanced pool n d = grind (arith, nat_tests)
 
 -- ---------------------------------------------------------------- new calls
-picked : (pool : States) (c : ℕ) → idle (pool c) ≡ true → (x : ℕ) → named x (Some c) ≡ 1 → idle (pool x) ≡ true
-picked pool c i x e = let z : x ≡ c = grind (arith, nat_tests) in ap (λ k. idle (pool k)) z ∙ i
-
 -- the event is a SETUP that brings the reference of m
 abbrev Brings : Brought → Message DigitsPart → Type 0
 Brings ev m = (r : ℕ) → setup_count r ev ≡ one_if (eqb m.reference.number r)
