@@ -55,16 +55,40 @@ Brings ev m = (r : ℕ) → setup_count r ev ≡ one_if (eqb m.reference.number 
 
 module _ (pool : States) (ev : Brought) (u : Uninvited ev) (q : Quiet ev) (m : Message DigitsPart) (b : Brings ev m) (n c : ℕ) (i : idle (pool c) ≡ true) where
   proceeding_balanced : Balanced pool None ev (begins_proceeding m n c)
-  proceeding_balanced = grind (arith, nat_tests)
+  proceeding_balanced =
+      record {
+        channels = λ x. grind (arith, nat_tests);
+        invites = λ t. grind (arith, nat_tests);
+        connects = λ r. grind (arith, nat_tests);
+        dialogues = λ d b. grind (arith, nat_tests);
+        answered = λ last l. grind (arith, nat_tests);
+        stands = grind (arith, nat_tests);
+      }
 
   collecting_balanced : Balanced pool None ev (begins_collecting m n c)
-  collecting_balanced = grind (arith, nat_tests)
+  collecting_balanced =
+      record {
+        channels = λ x. grind (arith, nat_tests);
+        invites = λ t. grind (arith, nat_tests);
+        connects = λ r. grind (arith, nat_tests);
+        dialogues = λ d b. grind (arith, nat_tests);
+        answered = λ last l. grind (arith, nat_tests);
+        stands = grind (arith, nat_tests);
+      }
 
   begins_balanced : (full : ℕ) → Balanced pool None ev (begins full m n c)
   begins_balanced full = cond_both (is_whole full m.elements.complete (length (called_digits m))) _ _ (Balanced pool None ev) (λ _. proceeding_balanced) (λ _. collecting_balanced)
 
 invited_balanced : (pool : States) (t d : ℕ) (xs : List ℕ) (c : ℕ) → idle (pool c) ≡ true → Balanced pool None (AnInvite t d) (invited t d xs c)
-invited_balanced pool t d xs c i = grind (arith, nat_tests)
+invited_balanced pool t d xs c i =
+    record {
+      channels = λ x. grind (arith, nat_tests);
+      invites = λ t. grind (arith, nat_tests);
+      connects = λ r. grind (arith, nat_tests);
+      dialogues = λ d b. grind (arith, nat_tests);
+      answered = λ last l. grind (arith, nat_tests);
+      stands = grind (arith, nat_tests);
+    }
 
 -- ---------------------------------------------------------------- the steps
 abbrev Free : State → ℕ → Type 0

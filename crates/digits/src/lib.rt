@@ -55,8 +55,8 @@ pub fn recorded(digits: Dialled<'_>) -> Digits
     extended(digits.octets, &[])
 }
 
-/// The digits of a record.
-fn meant(digits: &Digits) -> &[u8]
+/// The digits of a record: its first octets, as many as it counts and at most 20.
+pub fn meant(digits: &Digits) -> &[u8]
     ensures at_most_20 { result.now ≡ meant digits.now }
 {
     &digits.octets[..digits.count.min(MOST_DIGITS)]

@@ -4,12 +4,10 @@ ghost use Rattle.calls.specs.Effects.{meant};
 
 use crate::command::{Opening, PoolKind};
 use calls::{Answer, Call, Digits, ExchangeSide, Origin, Report, SipMessage, SipSide, Timer};
+use digits::meant;
 use message_text::MessageText;
 use messages::{Elements, Message, Part};
 use std::fmt;
-
-/// As many digits as a record holds.
-const MOST_DIGITS: usize = 20;
 
 /// A value, or a dash where there is none.
 #[derive(Drop)]
@@ -96,7 +94,7 @@ fn part_of(digits: &Digits) -> Part<'_>
 {
     Part {
         place: 0,
-        octets: &digits.octets[..digits.count.min(MOST_DIGITS)],
+        octets: meant(digits),
     }
 }
 
