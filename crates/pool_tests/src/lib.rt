@@ -4,4 +4,6 @@
 #[cfg(test)]
 mod link;
 #[cfg(test)]
+mod play;
+#[cfg(test)]
 mod turn;

@@ -1,64 +1,79 @@
+use crate::play::Step::{self, *};
+use crate::play::goes_otherwise;
 use link_pool::LinkPool;
-use pools::Pool;
+
+const ASCENDING: [u8; 30] = [
+    1, 2, 3, 4, 5, 6, 7, 8, 9, 10, 11, 12, 13, 14, 15, 17, 18, 19, 20, 21, 22, 23, 24, 25, 26, 27,
+    28, 29, 30, 31,
+];
+
+const DESCENDING: [u8; 30] = [
+    31, 30, 29, 28, 27, 26, 25, 24, 23, 22, 21, 20, 19, 18, 17, 15, 14, 13, 12, 11, 10, 9, 8, 7, 6,
+    5, 4, 3, 2, 1,
+];
+
+/// What a link does from the start.
+const PLAYS: [(&str, &[Step]); 5] = [
+    (
+        "knows 1 to 15 and 17 to 31",
+        &[
+            AllIdle(&ASCENDING),
+            Idle(0, false),
+            Idle(16, false),
+            Idle(32, false),
+            Idle(255, false),
+            Largest(31),
+        ],
+    ),
+    (
+        "an unknown number is neither seized nor released",
+        &[
+            Seize(0, false),
+            Seize(16, false),
+            Seize(32, false),
+            Release(16, false),
+            Release(200, false),
+        ],
+    ),
+    (
+        "a channel is seized once and released once, and the others stay idle",
+        &[
+            Release(5, false),
+            Seize(5, true),
+            Idle(5, false),
+            Seize(5, false),
+            Idle(4, true),
+            Idle(6, true),
+            Release(5, true),
+            Idle(5, true),
+            Release(5, false),
+        ],
+    ),
+    (
+        "takes the highest idle channel to exhaustion, and again",
+        &[
+            SeizeInTurn(&DESCENDING),
+            SeizeAny(None),
+            Release(4, true),
+            Release(20, true),
+            Release(9, true),
+            SeizeInTurn(&[20, 9, 4]),
+            SeizeAny(None),
+        ],
+    ),
+    (
+        "all come back",
+        &[
+            SeizeInTurn(&DESCENDING),
+            ReleaseAll(&ASCENDING),
+            SeizeAny(Some(31)),
+        ],
+    ),
+];
 
 #[test]
-fn knows_1_to_15_and_17_to_31(rt: HostRuntime) {
-    let pool = LinkPool::new();
-    for c in (1..=15).chain(17..=31) {
-        assert!(rt; pool.is_idle(c));
+fn plays_of_a_link(rt: HostRuntime) {
+    for (what, steps) in PLAYS {
+        assert_eq!(rt; goes_otherwise(&mut LinkPool::new(), steps), None, "{what}");
     }
-    assert!(rt; !pool.is_idle(0));
-    assert!(rt; !pool.is_idle(16));
-    assert!(rt; !pool.is_idle(32));
-    assert!(rt; !pool.is_idle(255));
-    assert_eq!(rt; LinkPool::largest_channel(), 31);
-}
-
-#[test]
-fn a_channel_is_seized_once_and_released_once(rt: HostRuntime) {
-    let mut pool = LinkPool::new();
-    assert!(rt; !pool.release(5), "an idle channel");
-    assert!(rt; pool.seize(5));
-    assert!(rt; !pool.is_idle(5));
-    assert!(rt; !pool.seize(5), "a seized channel");
-    assert!(rt; pool.is_idle(4) && pool.is_idle(6), "the others stay idle");
-    assert!(rt; pool.release(5));
-    assert!(rt; pool.is_idle(5));
-    assert!(rt; !pool.release(5), "released already");
-}
-
-#[test]
-fn an_unknown_number_is_neither_seized_nor_released(rt: HostRuntime) {
-    let mut pool = LinkPool::new();
-    assert!(rt; !pool.seize(0));
-    assert!(rt; !pool.seize(16));
-    assert!(rt; !pool.seize(32));
-    assert!(rt; !pool.release(16));
-    assert!(rt; !pool.release(200));
-}
-
-#[test]
-fn takes_the_highest_to_exhaustion_and_again(rt: HostRuntime) {
-    let mut pool = LinkPool::new();
-    for c in (1..=15).chain(17..=31).rev() {
-        assert_eq!(rt; pool.seize_any(), Some(c));
-    }
-    assert_eq!(rt; pool.seize_any(), None, "none is idle");
-    assert!(rt; pool.release(4) && pool.release(20) && pool.release(9));
-    assert_eq!(rt; pool.seize_any(), Some(20));
-    assert_eq!(rt; pool.seize_any(), Some(9));
-    assert_eq!(rt; pool.seize_any(), Some(4));
-    assert_eq!(rt; pool.seize_any(), None);
-}
-
-#[test]
-fn all_come_back(rt: HostRuntime) {
-    let mut pool = LinkPool::new();
-    for _ in 0..30 {
-        assert_ne!(rt; pool.seize_any(), None);
-    }
-    for c in (1..=15).chain(17..=31) {
-        assert!(rt; pool.release(c));
-    }
-    assert_eq!(rt; pool.seize_any(), Some(31));
 }

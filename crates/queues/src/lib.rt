@@ -3,5 +3,3 @@
 
 pub mod few;
 pub mod queue;
-#[cfg(test)]
-mod tests;
