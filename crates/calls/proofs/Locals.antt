@@ -1,5 +1,5 @@
--- The rules of one call keep the balance. A lemma knows of its rule the name, and of the state what the rule asks of it: a rule that
--- is changed and breaks no law stays proved here; where it breaks one, the line that fails, or the goal that it shows, names it.
+-- The rules of one call keep the balance. The lemma of a rule has its name and `_keeps`, knows of it little more, and has a line for
+-- each law: a rule that is changed and breaks no law stays proved here; where it breaks one, the line names it.
 use Rattle.std.proofs.Common.{◌≡◌, ℕ, ◌≤◌, Bool, true, false, ◌++◌, Some, None, Ok, Err, Option, Result, arith}
 use Rattle.std.proofs.lemmas.Bool.Decides.{nat_tests}
 use Rattle.std.proofs.lemmas.Bool.{cond_both}
@@ -24,9 +24,9 @@ status_final v = final_failure (counted v).value (counted v).location
 
 module _ (pool : States) (ev : Brought) (u : Uninvited ev) (q : Quiet ev) (k : Call) (sound : sides_agree k.exchange k.sip ≡ true) where
   -- ---------------------------------------------------------------- digits
-  module _ (one : is_in ExchangeSide.Collecting k.exchange ≡ true) where
-    spurning : (ds : Digits) → Balanced pool (Some k) ev (spurns k ds)
-    spurning ds =
+  module _ (collecting : is_in ExchangeSide.Collecting k.exchange ≡ true) where
+    spurns_keeps : (ds : Digits) → Balanced pool (Some k) ev (spurns k ds)
+    spurns_keeps ds =
         record {
           channels = λ c. grind (arith, nat_tests);
           invites = λ t. grind (arith, nat_tests);
@@ -36,8 +36,8 @@ module _ (pool : States) (ev : Brought) (u : Uninvited ev) (q : Quiet ev) (k : C
           stands = grind (arith, nat_tests);
         }
 
-    proceeding : (ds : Digits) → Balanced pool (Some k) ev (proceeds k ds)
-    proceeding ds =
+    proceeds_keeps : (ds : Digits) → Balanced pool (Some k) ev (proceeds k ds)
+    proceeds_keeps ds =
         record {
           channels = λ c. grind (arith, nat_tests);
           invites = λ t. grind (arith, nat_tests);
@@ -47,8 +47,8 @@ module _ (pool : States) (ev : Brought) (u : Uninvited ev) (q : Quiet ev) (k : C
           stands = grind (arith, nat_tests);
         }
 
-    awaiting : (ds : Digits) → Balanced pool (Some k) ev (awaits k ds)
-    awaiting ds =
+    awaits_keeps : (ds : Digits) → Balanced pool (Some k) ev (awaits k ds)
+    awaits_keeps ds =
         record {
           channels = λ c. grind (arith, nat_tests);
           invites = λ t. grind (arith, nat_tests);
@@ -58,12 +58,12 @@ module _ (pool : States) (ev : Brought) (u : Uninvited ev) (q : Quiet ev) (k : C
           stands = grind (arith, nat_tests);
         }
 
-    dialling : (full : ℕ) (complete : Bool) (ds : Digits) → Balanced pool (Some k) ev (dials full complete k ds)
-    dialling full complete ds = let s = spurning ds in let p = proceeding ds in let a = awaiting ds in grind (arith, nat_tests)
+    dials_keeps : (full : ℕ) (complete : Bool) (ds : Digits) → Balanced pool (Some k) ev (dials full complete k ds)
+    dials_keeps full complete ds = let s = spurns_keeps ds in let p = proceeds_keeps ds in let a = awaits_keeps ds in grind (arith, nat_tests)
 
-    collecting : (full : ℕ) (complete : Bool) (o : Option Digits) → Balanced pool (Some k) ev (collects full complete k o)
-    collecting full complete None = spurning k.digits
-    collecting full complete (Some ds) = dialling full complete ds
+    collects_keeps : (full : ℕ) (complete : Bool) (o : Option Digits) → Balanced pool (Some k) ev (collects full complete k o)
+    collects_keeps full complete None = spurns_keeps k.digits
+    collects_keeps full complete (Some ds) = dials_keeps full complete ds
 
   -- ---------------------------------------------------------------- a message
   -- what a state does not take is refused
@@ -72,8 +72,8 @@ module _ (pool : States) (ev : Brought) (u : Uninvited ev) (q : Quiet ev) (k : C
 
   module _ (live : is_over k.exchange ≡ false) where
     module _ (s : ℕ) (refuses : Names.first_failure ≤ s) (known : s ≤ Names.last_status) where
-      disconnecting : is_unreleased k.exchange ≡ true → Balanced pool (Some k) ev (disconnected k s)
-      disconnecting e =
+      disconnected_keeps : is_unreleased k.exchange ≡ true → Balanced pool (Some k) ev (disconnected k s)
+      disconnected_keeps e =
           record {
             channels = λ c. grind (arith, nat_tests);
             invites = λ t. grind (arith, nat_tests);
@@ -83,8 +83,8 @@ module _ (pool : States) (ev : Brought) (u : Uninvited ev) (q : Quiet ev) (k : C
             stands = grind (arith, nat_tests);
           }
 
-      releasing : Balanced pool (Some k) ev (released k s)
-      releasing =
+      released_keeps : Balanced pool (Some k) ev (released k s)
+      released_keeps =
           record {
             channels = λ c. grind (arith, nat_tests);
             invites = λ t. grind (arith, nat_tests);
@@ -94,8 +94,8 @@ module _ (pool : States) (ev : Brought) (u : Uninvited ev) (q : Quiet ev) (k : C
             stands = grind (arith, nat_tests);
           }
 
-      ending : Balanced pool (Some k) ev (ended k s)
-      ending =
+      ended_keeps : Balanced pool (Some k) ev (ended k s)
+      ended_keeps =
           record {
             channels = λ c. grind (arith, nat_tests);
             invites = λ t. grind (arith, nat_tests);
@@ -105,9 +105,9 @@ module _ (pool : States) (ev : Brought) (u : Uninvited ev) (q : Quiet ev) (k : C
             stands = grind (arith, nat_tests);
           }
 
-    pub trying_again : (pick : Option ℕ) → AnyWasIdle pick pool → is_in ExchangeSide.SetupSent k.exchange ≡ true → Balanced pool (Some k) ev (tries_again pick k)
-    trying_again None i e = ending _ (omega arith) (omega arith)
-    trying_again (Some c) i e =
+    pub tries_again_keeps : (pick : Option ℕ) → AnyWasIdle pick pool → is_in ExchangeSide.SetupSent k.exchange ≡ true → Balanced pool (Some k) ev (tries_again pick k)
+    tries_again_keeps None i e = ended_keeps _ (omega arith) (omega arith)
+    tries_again_keeps (Some c) i e =
         record {
           channels = λ c. grind (arith, nat_tests);
           invites = λ t. grind (arith, nat_tests);
@@ -117,11 +117,11 @@ module _ (pool : States) (ev : Brought) (u : Uninvited ev) (q : Quiet ev) (k : C
           stands = grind (arith, nat_tests);
         }
 
-    completing : (pick : Option ℕ) → AnyWasIdle pick pool → (v : Option Cause) → Balanced pool (Some k) ev (completed pick v k)
-    completing pick i v =
+    completed_keeps : (pick : Option ℕ) → AnyWasIdle pick pool → (v : Option Cause) → Balanced pool (Some k) ev (completed pick v k)
+    completed_keeps pick i v =
         let final = status_final v in
         cond_both (asks_for_another k.exchange v) _ _ (Balanced pool (Some k) ev)
-        (λ e. trying_again pick i (grind (arith, nat_tests))) (λ _. ending _ final.0 final.1)
+        (λ e. tries_again_keeps pick i (grind (arith, nat_tests))) (λ _. ended_keeps _ final.0 final.1)
 
     pub on_type_keeps : (full : ℕ) (pick : Option ℕ) → AnyWasIdle pick pool → (m : Message DigitsPart) (kind : MessageType) → Keeps pool k ev (on_type full pick m k kind)
     on_type_keeps full pick i m MessageType.Alerting =
@@ -171,10 +171,10 @@ module _ (pool : States) (ev : Brought) (u : Uninvited ev) (q : Quiet ev) (k : C
           answered = λ last l. grind (arith, nat_tests);
           stands = grind (arith, nat_tests);
         })
-    on_type_keeps full pick i m MessageType.Disconnect = let final = status_final m.elements.cause in only_keeps _ _ (disconnecting _ final.0 final.1)
-    on_type_keeps full pick i m MessageType.Release = let final = status_final m.elements.cause in releasing _ final.0 final.1
-    on_type_keeps full pick i m MessageType.ReleaseComplete = completing pick i m.elements.cause
-    on_type_keeps full pick i m MessageType.Information = only_keeps _ _ (λ e. collecting e full m.elements.complete (record_of (meant k.digits ++ called_digits m)))
+    on_type_keeps full pick i m MessageType.Disconnect = let final = status_final m.elements.cause in only_keeps _ _ (disconnected_keeps _ final.0 final.1)
+    on_type_keeps full pick i m MessageType.Release = let final = status_final m.elements.cause in released_keeps _ final.0 final.1
+    on_type_keeps full pick i m MessageType.ReleaseComplete = completed_keeps pick i m.elements.cause
+    on_type_keeps full pick i m MessageType.Information = only_keeps _ _ (λ e. collects_keeps e full m.elements.complete (record_of (meant k.digits ++ called_digits m)))
 
     -- ---------------------------------------------------------------- an expiry
     on_timer_keeps : (t : Timer) → is_running t k.exchange ≡ true → Balanced pool (Some k) ev (on_timer k t)
@@ -257,8 +257,8 @@ module _ (pool : States) (ev : Brought) (u : Uninvited ev) (q : Quiet ev) (k : C
       }) (λ _. tt)
 
   -- ---------------------------------------------------------------- a response
-  pub failing : (v : Cause) → awaits_response k.sip ≡ true → Balanced pool (Some k) ev (fails k v)
-  failing v w =
+  pub fails_keeps : (v : Cause) → awaits_response k.sip ≡ true → Balanced pool (Some k) ev (fails k v)
+  fails_keeps v w =
       record {
         channels = λ c. grind (arith, nat_tests);
         invites = λ t. grind (arith, nat_tests);
@@ -268,9 +268,9 @@ module _ (pool : States) (ev : Brought) (u : Uninvited ev) (q : Quiet ev) (k : C
         stands = grind (arith, nat_tests);
       }
 
-  telling : (x : Told) (media : Bool) (news : Option News) → k.sip ≡ SipSide.InviteSent x → Balanced pool (Some k) ev (tells k media x news)
-  telling x media None e = grind (arith, nat_tests)
-  telling x media (Some News.Alerting) e =
+  tells_keeps : (x : Told) (media : Bool) (news : Option News) → k.sip ≡ SipSide.InviteSent x → Balanced pool (Some k) ev (tells k media x news)
+  tells_keeps x media None e = grind (arith, nat_tests)
+  tells_keeps x media (Some News.Alerting) e =
       record {
         channels = λ c. grind (arith, nat_tests);
         invites = λ t. grind (arith, nat_tests);
@@ -279,7 +279,7 @@ module _ (pool : States) (ev : Brought) (u : Uninvited ev) (q : Quiet ev) (k : C
         answered = λ last l. grind (arith, nat_tests);
         stands = grind (arith, nat_tests);
       }
-  telling x media (Some News.InBand) e =
+  tells_keeps x media (Some News.InBand) e =
       record {
         channels = λ c. grind (arith, nat_tests);
         invites = λ t. grind (arith, nat_tests);
@@ -288,7 +288,7 @@ module _ (pool : States) (ev : Brought) (u : Uninvited ev) (q : Quiet ev) (k : C
         answered = λ last l. grind (arith, nat_tests);
         stands = grind (arith, nat_tests);
       }
-  telling x media (Some News.Interworking) e =
+  tells_keeps x media (Some News.Interworking) e =
       record {
         channels = λ c. grind (arith, nat_tests);
         invites = λ t. grind (arith, nat_tests);
@@ -299,7 +299,7 @@ module _ (pool : States) (ev : Brought) (u : Uninvited ev) (q : Quiet ev) (k : C
       }
 
   pub provisional_keeps : (s : ℕ) (media : Bool) (g : SipSide) → k.sip ≡ g → Balanced pool (Some k) ev (provisional k s media g)
-  provisional_keeps s media (SipSide.InviteSent x) e = telling x media (news_of s media x) e
+  provisional_keeps s media (SipSide.InviteSent x) e = tells_keeps x media (news_of s media x) e
   provisional_keeps s media g e = grind (arith, nat_tests)
 
 -- ---------------------------------------------------------------- a CANCEL, a BYE, a 200
@@ -326,9 +326,9 @@ module _ (pool : States) (k : Call) (sound : sides_agree k.exchange k.sip ≡ tr
         stands = grind (arith, nat_tests);
       }
 
-  pub accepting : (n d : ℕ) (g : SipSide) → k.sip ≡ g → Balanced pool (Some k) (AnOk d) (accepts k n d g)
-  accepting n d SipSide.None e = grind (arith, nat_tests)
-  accepting n d (SipSide.InviteSent x) e =
+  pub accepts_keeps : (n d : ℕ) (g : SipSide) → k.sip ≡ g → Balanced pool (Some k) (AnOk d) (accepts k n d g)
+  accepts_keeps n d SipSide.None e = grind (arith, nat_tests)
+  accepts_keeps n d (SipSide.InviteSent x) e =
       record {
         channels = λ c. grind (arith, nat_tests);
         invites = λ t. grind (arith, nat_tests);
@@ -337,7 +337,7 @@ module _ (pool : States) (k : Call) (sound : sides_agree k.exchange k.sip ≡ tr
         answered = λ last l. grind (arith, nat_tests);
         stands = grind (arith, nat_tests);
       }
-  accepting n d (SipSide.InviteUnanswered t y) e =
+  accepts_keeps n d (SipSide.InviteUnanswered t y) e =
       record {
         channels = λ c. grind (arith, nat_tests);
         invites = λ t. grind (arith, nat_tests);
@@ -346,7 +346,7 @@ module _ (pool : States) (k : Call) (sound : sides_agree k.exchange k.sip ≡ tr
         answered = λ last l. grind (arith, nat_tests);
         stands = grind (arith, nat_tests);
       }
-  accepting n d (SipSide.Up y) e =
+  accepts_keeps n d (SipSide.Up y) e =
       record {
         channels = λ c. grind (arith, nat_tests);
         invites = λ t. grind (arith, nat_tests);
@@ -355,7 +355,7 @@ module _ (pool : States) (k : Call) (sound : sides_agree k.exchange k.sip ≡ tr
         answered = λ last l. grind (arith, nat_tests);
         stands = grind (arith, nat_tests);
       }
-  accepting n d SipSide.CancelSent e =
+  accepts_keeps n d SipSide.CancelSent e =
       record {
         channels = λ c. grind (arith, nat_tests);
         invites = λ t. grind (arith, nat_tests);

@@ -8,13 +8,13 @@ use Rattle.pools.specs.States.{States, idle, AnyWasIdle}
 use Rattle.std.proofs.lemmas.Bool.{cond_both, and_parts}
 use Rattle.messages.specs.Reading.{decoded}
 use Rattle.messages.specs.Types.{is_setup}
-use Rattle.calls.specs.Sides.{is_over, awaits_response, owes, holds_dialogue, sum_of, one_if, named, connects_in}
+use Rattle.calls.specs.Sides.{is_over, awaits_response, owes, holds_dialogue, sum_of, one_if, connects_in}
 use Rattle.calls.specs.Effects.{Effect, called_digits, is_whole, misdialled, cause_for, on_expiry, on_cancel_expiry, ack_and_bye, leaves, begins_proceeding, begins_collecting, begins, invited}
 use Rattle.calls.specs.Rules.{Event, Exchange, Invite, Cancel, Bye, Response, Expiry, CancelExpiry, TakeExchange, TakeSip, State, Choice, Fair, FreePlace, Outcome, Refuse, Reply, Change, TookExchange, TookSip, seek, by_reference, by_number, by_live_number, by_awaited_number, by_transaction, at, at_call, rejects, granted, seated, admitted, on_setup, turned_away, uncalled, on_message, replies, calls_out, dialling_status, unless_answered, on_invite, another, on_ok, accepted, on_other, is_other_success, on_response, is_roomy, roomed, on_octets, is_status, outcome}
 use Rattle.calls.specs.Laws.{Brought, ASetup, AnInvite, AnOk, ABye, NoneOfThese, brought_by_octets, brought_by, setup_count, invite_count}
 use Rattle.calls.specs.Standing.{Everywhere, sides_agree, SoundAt}
 use Rattle.calls.proofs.Balance.{Balanced, Uninvited, Quiet}
-use Rattle.calls.proofs.Locals.{Keeps, on_type_keeps, on_expiry_keeps, on_cancel_expiry_keeps, cancel_keeps, bye_keeps, accepting, failing, provisional_keeps}
+use Rattle.calls.proofs.Locals.{Keeps, on_type_keeps, on_expiry_keeps, on_cancel_expiry_keeps, cancel_keeps, bye_keeps, accepts_keeps, fails_keeps, provisional_keeps}
 use Rattle.calls.proofs.Places.{everywhere_at, Finds, Misses, seek_tells}
 
 -- the effect of an answer that touches no call
@@ -54,8 +54,8 @@ abbrev Brings : Brought → Message DigitsPart → Type 0
 Brings ev m = (r : ℕ) → setup_count r ev ≡ one_if (eqb m.reference.number r)
 
 module _ (pool : States) (ev : Brought) (u : Uninvited ev) (q : Quiet ev) (m : Message DigitsPart) (b : Brings ev m) (n c : ℕ) (i : idle (pool c) ≡ true) where
-  proceeding_balanced : Balanced pool None ev (begins_proceeding m n c)
-  proceeding_balanced =
+  begins_proceeding_keeps : Balanced pool None ev (begins_proceeding m n c)
+  begins_proceeding_keeps =
       record {
         channels = λ x. grind (arith, nat_tests);
         invites = λ t. grind (arith, nat_tests);
@@ -65,8 +65,8 @@ module _ (pool : States) (ev : Brought) (u : Uninvited ev) (q : Quiet ev) (m : M
         stands = grind (arith, nat_tests);
       }
 
-  collecting_balanced : Balanced pool None ev (begins_collecting m n c)
-  collecting_balanced =
+  begins_collecting_keeps : Balanced pool None ev (begins_collecting m n c)
+  begins_collecting_keeps =
       record {
         channels = λ x. grind (arith, nat_tests);
         invites = λ t. grind (arith, nat_tests);
@@ -76,11 +76,11 @@ module _ (pool : States) (ev : Brought) (u : Uninvited ev) (q : Quiet ev) (m : M
         stands = grind (arith, nat_tests);
       }
 
-  begins_balanced : (full : ℕ) → Balanced pool None ev (begins full m n c)
-  begins_balanced full = cond_both (is_whole full m.elements.complete (length (called_digits m))) _ _ (Balanced pool None ev) (λ _. proceeding_balanced) (λ _. collecting_balanced)
+  begins_keeps : (full : ℕ) → Balanced pool None ev (begins full m n c)
+  begins_keeps full = cond_both (is_whole full m.elements.complete (length (called_digits m))) _ _ (Balanced pool None ev) (λ _. begins_proceeding_keeps) (λ _. begins_collecting_keeps)
 
-invited_balanced : (pool : States) (t d : ℕ) (xs : List ℕ) (c : ℕ) → idle (pool c) ≡ true → Balanced pool None (AnInvite t d) (invited t d xs c)
-invited_balanced pool t d xs c i =
+invited_keeps : (pool : States) (t d : ℕ) (xs : List ℕ) (c : ℕ) → idle (pool c) ≡ true → Balanced pool None (AnInvite t d) (invited t d xs c)
+invited_keeps pool t d xs c i =
     record {
       channels = λ x. grind (arith, nat_tests);
       invites = λ t. grind (arith, nat_tests);
@@ -124,7 +124,7 @@ module _ (st : State) (ev : Brought) (u : Uninvited ev) (q : Quiet ev) (m : Mess
 
   module _ (b : Brings ev m) where
     begins_lawful : (i n c : ℕ) → Free st i → idle (st.pool c) ≡ true → Lawful st ev (Change i (begins st.full m n c))
-    begins_lawful i n c f h = enters_at st ev i _ (fresh st ev u) f (begins_balanced st.pool ev u q m b n c h st.full)
+    begins_lawful i n c f h = enters_at st ev i _ (fresh st ev u) f (begins_keeps st.pool ev u q m b n c h st.full)
 
     seated_lawful : (i n : ℕ) (got : Option ℕ) → ((c : ℕ) → got ≡ Some c → idle (st.pool c) ≡ true) → Free st i → Lawful st ev (seated st.full m i n got)
     seated_lawful i n None h f = rejects_lawful _
@@ -188,7 +188,7 @@ module _ (st : State) (s : Everywhere SoundAt st.table) where
       replies_lawful v lo hi = (f, answered_balanced st.pool t d v lo hi)
 
       calls_out_lawful : (place pick : Option ℕ) → FreePlace st.table place → AnyWasIdle pick st.pool → Lawful st (AnInvite t d) (calls_out t d xs place pick)
-      calls_out_lawful (Some i) (Some c) p h = enters_at st _ i _ f p (invited_balanced st.pool t d xs c h)
+      calls_out_lawful (Some i) (Some c) p h = enters_at st _ i _ f p (invited_keeps st.pool t d xs c h)
       calls_out_lawful (Some i) None p h = replies_lawful _ (omega arith) (omega arith)
       calls_out_lawful None pick p h = replies_lawful _ (omega arith) (omega arith)
 
@@ -207,12 +207,12 @@ module _ (st : State) (s : Everywhere SoundAt st.table) where
   module _ (n d : ℕ) where
     ok_lawful : (r : Option Found) → MatchOption r (Misses (by_live_number n) st.table) (Finds (by_live_number n) st.table) → Lawful st (AnOk d) (on_ok n d r)
     ok_lawful None h = (fresh st (AnOk d) (λ t. refl), declined_balanced st.pool n d)
-    ok_lawful (Some x) h = changes_at st _ _ x _ (fresh st (AnOk d) (λ t. refl)) h (accepting st.pool x.call (sound_at st _ x s h) n d x.call.sip refl)
+    ok_lawful (Some x) h = changes_at st _ _ x _ (fresh st (AnOk d) (λ t. refl)) h (accepts_keeps st.pool x.call (sound_at st _ x s h) n d x.call.sip refl)
 
     other_keeps : (v : ℕ) (media : Bool) (k : Call) → sides_agree k.exchange k.sip ≡ true → by_awaited_number n k ≡ true → Balanced st.pool (Some k) NoneOfThese (on_other v media k)
     other_keeps v media k good h =
         cond_both (leb Names.first_failure v) _ _ (Balanced st.pool (Some k) NoneOfThese)
-        (λ _. failing st.pool NoneOfThese (λ t. refl) (λ d. refl) k good (cause_for v) (and_parts (by_number n k) (awaits_response k.sip) h).1)
+        (λ _. fails_keeps st.pool NoneOfThese (λ t. refl) (λ d. refl) k good (cause_for v) (and_parts (by_number n k) (awaits_response k.sip) h).1)
         (λ _. provisional_keeps st.pool NoneOfThese (λ t. refl) (λ d. refl) k good v media k.sip refl)
 
     response_lawful : (v : ℕ) (media : Bool) → Lawful st (brought_by (Response n v d media)) (on_response st.table n v d media)

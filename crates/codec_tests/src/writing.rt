@@ -125,7 +125,7 @@ const CASES: [(bool, u16, MessageType, With, usize, Result<&[u8], u8>); 23] = [
         ROOM,
         Err(10),
     ),
-    // the order of the checks: channel and digits of a SETUP, fields, room
+    // the order of the checks: fields, channel and digits of a SETUP, room
     (
         false,
         5,

@@ -12,7 +12,7 @@ use Rattle.calls.specs.Rules.{State, at, granted, seated, admitted, on_setup}
 use Rattle.calls.specs.Laws.{NoneOfThese}
 use Rattle.calls.proofs.Choices.{Bounded, fair_pick}
 use Rattle.calls.proofs.Balance.{Balanced}
-use Rattle.calls.proofs.Locals.{Keeps, trying_again, on_type_keeps}
+use Rattle.calls.proofs.Locals.{Keeps, tries_again_keeps, on_type_keeps}
 use Rattle.calls.proofs.Places.{everywhere_at}
 use Rattle.calls.proofs.Sounds.{sound_everywhere}
 use Rattle.call_table.specs.Tokens.{token_channel, token_of}
@@ -45,7 +45,7 @@ module _ (st : State) (len : length st.table ≡ 64) (sound : is_sound st.table 
   pub ready_again : is_in ExchangeSide.SetupSent k.exchange ≡ true → (token : Option Token) → AnyWasIdle (token_channel token) st.pool → Ready st.table i (tries_again (token_channel token) k).after (tries_again (token_channel token) k).released token
   ready_again waits token h =
       let live : is_over k.exchange ≡ false = grind (arith, nat_tests) in
-      let kept = trying_again st.pool NoneOfThese (λ t. refl) (λ d. refl) k sound_call live (token_channel token) h waits in again token kept live
+      let kept = tries_again_keeps st.pool NoneOfThese (λ t. refl) (λ d. refl) k sound_call live (token_channel token) h waits in again token kept live
     where
       again : (token : Option Token) → Balanced st.pool (Some k) NoneOfThese (tries_again (token_channel token) k) → is_over k.exchange ≡ false → Ready st.table i (tries_again (token_channel token) k).after (tries_again (token_channel token) k).released token
       again None b live = placed st.pool (tries_again None k) b refl

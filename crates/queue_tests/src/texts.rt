@@ -2,7 +2,7 @@ use queues::queue::{Queue, Refused};
 use std::alloc::{AllocError, Global};
 use std::test::Fail;
 
-/// Puts a text that is made for the queue alone.
+/// Makes a text and puts it into the queue; answers what came back, if the queue was full.
 fn put(
     queue: &mut Queue<'_, String>,
     heap: Global,

@@ -29,21 +29,28 @@ const CLEARED: ExchangeSide = ExchangeSide::DisconnectSent {
 
 const UP: SipSide = SipSide::Up { dialogue: 51 };
 
+const ANOTHER_UP: SipSide = SipSide::Up { dialogue: 52 };
+
 /// Calls in every state that a key asks for.
-const ENTRIES: [Step; 5] = [
+const ENTRIES: [Step; 6] = [
     Enter(
         3,
-        FromExchange(5, ExchangeSide::Collecting, SipSide::None),
+        FromExchange(5, 5, ExchangeSide::Collecting, SipSide::None),
         true,
     ),
-    Enter(4, FromExchange(6, ExchangeSide::Proceeding, INVITED), true),
-    Enter(5, FromExchange(7, CLEARED, SipSide::CancelSent), true),
+    Enter(
+        4,
+        FromExchange(6, 6, ExchangeSide::Proceeding, INVITED),
+        true,
+    ),
+    Enter(5, FromExchange(7, 7, CLEARED, SipSide::CancelSent), true),
     Enter(6, ToExchange(5, ExchangeSide::SetupSent, UNANSWERED), true),
+    Enter(62, FromExchange(9, 1, ExchangeSide::Up, ANOTHER_UP), true),
     Enter(63, ToExchange(8, ExchangeSide::Up, UP), true),
 ];
 
 /// Keys, and the places of the calls that they find among the entries.
-const FINDINGS: [(&str, Key, Option<usize>); 16] = [
+const FINDINGS: [(&str, Key, Option<usize>); 18] = [
     (
         "reference",
         Key::Reference(CallReference {
@@ -79,6 +86,8 @@ const FINDINGS: [(&str, Key, Option<usize>); 16] = [
     ("no such dialogue", Key::Dialogue(40), None),
     ("number, SIP side not begun", Key::Number(5), Some(3)),
     ("no such number", Key::Number(8), None),
+    ("number beside another reference", Key::Number(1), Some(62)),
+    ("a reference is no number", Key::Number(9), None),
     ("live number, SIP side not begun", Key::LiveNumber(5), None),
     ("live number, INVITE out", Key::LiveNumber(6), Some(4)),
     ("live number, CANCEL out", Key::LiveNumber(7), Some(5)),
@@ -91,11 +100,13 @@ const FINDINGS: [(&str, Key, Option<usize>); 16] = [
     ("awaited number, CANCEL out", Key::AwaitedNumber(7), Some(5)),
 ];
 
+/// The reference of the call that is entered below.
 const REFERENCE: Key = Key::Reference(CallReference {
     flag: false,
     number: 7,
 });
 
+/// The same number as the other end would have given it out.
 const OTHER_FLAG: Key = Key::Reference(CallReference {
     flag: true,
     number: 7,
@@ -105,7 +116,7 @@ const OTHER_FLAG: Key = Key::Reference(CallReference {
 const STAYS: [Step; 12] = [
     Enter(
         0,
-        FromExchange(7, ExchangeSide::Up, SipSide::CancelSent),
+        FromExchange(7, 7, ExchangeSide::Up, SipSide::CancelSent),
         true,
     ),
     Holds(0, Some(31)),

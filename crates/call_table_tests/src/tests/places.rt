@@ -7,7 +7,7 @@ use calls::{ExchangeSide, SipSide};
 use link_pool::LinkPool;
 use messages::CallReference;
 
-const OVER: Entry = Entry::FromExchange(1, ExchangeSide::Over, SipSide::CancelSent);
+const OVER: Entry = Entry::FromExchange(1, 1, ExchangeSide::Over, SipSide::CancelSent);
 
 /// The reference of the calls that are entered by a wish.
 const REFERENCE: Key = Key::Reference(CallReference {

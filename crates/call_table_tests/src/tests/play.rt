@@ -5,15 +5,15 @@ use calls::{Call, ExchangeSide, Origin, SipSide};
 use messages::CallReference;
 use pools::Pool;
 
-/// A call that is entered on a channel of the trunk's choice, with the number of its reference. A call from the exchange has that
-/// number as its own too.
+/// A telephone call that is entered on a channel of the trunk's choice, with the number of its reference; one from the exchange
+/// with its own number behind that.
 #[derive(Clone, Copy)]
 pub enum Entry {
-    FromExchange(u16, ExchangeSide, SipSide),
+    FromExchange(u16, u64, ExchangeSide, SipSide),
     ToExchange(u16, ExchangeSide, SipSide),
 }
 
-/// One call to the table or the trunk, with what it has to answer. The places come first, and what is answered last.
+/// One question to the table or the trunk, with what it has to answer. The places come first, and what is answered last.
 #[derive(Clone, Copy)]
 pub enum Step {
     Largest(u8),
@@ -21,9 +21,9 @@ pub enum Step {
     Free(Option<usize>),
     Holds(usize, Option<u8>),
     Finds(Key, Option<usize>),
-    /// Seizes exactly this channel.
+    /// Enters a call at the place, on exactly this channel.
     Exactly(usize, u8, Option<u8>),
-    /// Seizes this channel or another.
+    /// Enters a call at the place, on this channel or else another.
     Rather(usize, u8, Option<u8>),
     Enter(usize, Entry, bool),
     Vacate(usize, Option<u8>),
@@ -33,13 +33,12 @@ pub enum Step {
 /// The call of an entry, on that channel.
 fn entered_on(channel: u8, entry: Entry) -> Call {
     let (flag, number, origin, exchange, sip) = match entry {
-        Entry::FromExchange(number, exchange, sip) => {
-            let origin = Origin::Exchange {
-                number: number as u64,
-            };
-            (false, number, origin, exchange, sip)
+        Entry::FromExchange(reference, number, exchange, sip) => {
+            (false, reference, Origin::Exchange { number }, exchange, sip)
         }
-        Entry::ToExchange(number, exchange, sip) => (true, number, Origin::Sip, exchange, sip),
+        Entry::ToExchange(reference, exchange, sip) => {
+            (true, reference, Origin::Sip, exchange, sip)
+        }
     };
     Call {
         reference: CallReference { flag, number },
