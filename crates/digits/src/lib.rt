@@ -3,7 +3,7 @@
 
 mod dialled;
 
-ghost use Rattle.std.specs.Prelude.{◌≡◌, ◌+◌, ◌≤◌, false, not, ◌++◌, length, take, drop};
+ghost use Rattle.std.specs.Prelude.{◌≡◌, ◌+◌, ◌≤◌, false, not, ◌++◌, length, replicate, take, drop};
 ghost use Rattle.calls.specs.Effects.{recorded, record_of, meant, is_nothing};
 ghost use Rattle.digits.specs.Keeping.{Keeps};
 
@@ -34,12 +34,19 @@ fn lay(octets: &mut [u8], at: usize, digits: &[u8])
     octets[at..at + digits.len()].copy_from_slice(digits);
 }
 
+/// The octets of a record that has no digits.
+fn noughts() -> [u8; MOST_DIGITS]
+    ensures as_many_as_a_record_holds { result ≡ replicate 20 0 }
+{
+    [0u8; MOST_DIGITS]
+}
+
 /// The record of some digits with more behind them, at most 20 together, and noughts after them.
 fn extended(known: &[u8], more: &[u8]) -> Digits
     requires few { length known.now + length more.now ≤ 20 }
     ensures one_behind_the_other { result ≡ recorded (known.now ++ more.now) }
 {
-    let mut octets = [0u8; MOST_DIGITS];
+    let mut octets = noughts();
     lay(&mut octets, 0, known);
     lay(&mut octets, known.len(), more);
     Digits {

@@ -16,6 +16,8 @@ returns c =
     record {
       one_behind_the_other =
           ap (build (length xs + length ys))
-          (c.lay-2.ensures.laid_there_alone ∙ ap over c.lay.ensures.laid_there_alone ∙ laid xs ys _ (drop-replicate (0 + length xs) 20 0 ∙ ap (λ k. replicate k 0) (omega arith)))
+          (c.lay-2.ensures.laid_there_alone
+          ∙ ap over (c.lay.ensures.laid_there_alone ∙ ap (λ (octets : List ℕ). (take 0 octets ++ xs) ++ drop (0 + length xs) octets) c.noughts-octets.ensures.as_many_as_a_record_holds)
+          ∙ laid xs ys _ (drop-replicate (0 + length xs) 20 0 ∙ ap (λ k. replicate k 0) (omega arith)))
           ∙ ap (λ n. build n ((xs ++ ys) ++ replicate (20 - length (xs ++ ys)) 0)) (sym (length-append xs ys));
     }

@@ -7,10 +7,9 @@ pub carry_out-requires : goal.carry_out-requires
 carry_out-requires g c =
     let st = state_of g.P.Pool.state c.args.self.now c.args.queues.now in
     let re = c.args.response in
-    let o = on_response st.table re.number re.status re.dialogue re.media in
     record {
-      possible_with_room = possible_step st c.args.self.now.table.whole c.args.self.now.sound (Response re.number re.status re.dialogue re.media) o _ c.on_response-decision.ensures.by_the_status
-          (λ ch. cond-true (is_status re.status) (roomed (record st { pool = all_unknown }) o) (refuse Ground.StatusOutOfRange) (sym c.if-not-is_status.ensures.from_100_to_699));
+      possible_with_room = possible_step st c.args.self.now.table.whole c.args.self.now.sound (Response re.number re.status re.dialogue _) (on_response st.table re.number re.status re.dialogue _) _ c.on_response-decision.ensures.by_the_status
+          (λ ch. cond-true (is_status re.status) (roomed (record st { pool = all_unknown }) _) (refuse Ground.StatusOutOfRange) (sym c.if-not-is_status.ensures.from_100_to_699));
     }
 
 pub returns-then-not-is_status-clause-steps_by_the_rules : goal.returns-then-not-is_status-clause-steps_by_the_rules
