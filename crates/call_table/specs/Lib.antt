@@ -1,4 +1,5 @@
 pub mod Tokens
 pub mod Wishes
+pub mod Moves
 pub mod Keys
 pub mod Records

@@ -1,5 +1,5 @@
 -- The 64 places of the table of calls: the channels that they hold, and how tokens go in and out.
-use Rattle.std.specs.Prelude.{◌≡◌, ℕ, Bool, if◌then◌else◌, ◌&&◌, List, is_some, is_none, Some, None, Ok, Err, Option, Result, nat_lt, slice_index_or, slice_set}
+use Rattle.std.specs.Prelude.{◌≡◌, ◌<◌, ℕ, Bool, if◌then◌else◌, ◌&&◌, List, is_some, is_none, Some, None, Ok, Err, Option, Result, nat_lt, slice_index_or, slice_set}
 use Rattle.std.specs.Option.{option_and_then}
 use Rattle.calls.specs.declared.record.Call.{Call}
 use Rattle.calls.specs.Sides.{held_channel, equals_some}
@@ -45,7 +45,15 @@ abbrev pub Enters : Option Call → Option Call → Option Token → Type 0
 Enters before after None = MayHold (holding before) (holding after)
 Enters before after (Some token) = holding after ≡ Some token.channel
 
+-- a change is taken at one of the 64 places, and with no channel held without its token
+abbrev pub MayChange : List (Option Call) → ℕ → Option Call → Option Token → Type 0
+MayChange places place after token = (place < 64) × Enters (slice_index_or places place None) after token
+
 -- the token that comes out: of the channel that the place held, unless it goes on holding it
 abbrev pub left : Option Call → Option Call → Option Token → Option Token
 left before after None = if is_some (holding after) then None else token_of (holding before)
 left before after (Some token) = token_of (holding before)
+
+-- the record stands at its place where the change is taken, else the places are as they were
+abbrev pub after_changing : Bool → List (Option Call) → ℕ → Option Call → List (Option Call)
+after_changing taken places place after = if taken then slice_set places place after else places

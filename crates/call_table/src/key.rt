@@ -9,9 +9,9 @@ use messages::CallReference;
 // Stays an enum: with a closure in its place `find` would promise only over every test that agrees with the closure.
 #[derive(Clone, Copy, PartialEq, Eq, Debug)]
 pub enum Key {
-    /// The reference as the exchange sends it, of a call whose exchange side is not over.
+    /// The reference with its flag, as the exchange sends it; a call that is over at the exchange has none that counts.
     Reference(CallReference),
-    /// The transaction of an INVITE that came and is unanswered.
+    /// The transaction that an INVITE came with, as long as the gateway owes its final response.
     Transaction(u64),
     /// The dialogue that a call holds.
     Dialogue(u64),

@@ -1,8 +1,8 @@
-ghost use Rattle.std.specs.Prelude.{◌≡◌, ◌<◌, length, replicate, Some, None, slice_index_or, slice_set};
+ghost use Rattle.std.specs.Prelude.{◌≡◌, length, replicate, Some, None, MatchBool, MatchResult, is_ok, slice_index_or, slice_set};
 ghost use Rattle.calls.specs.Rules.{seek, FreePlace};
 ghost use Rattle.call_table.specs.Keys.{keyed, Within};
 ghost use Rattle.call_table.specs.Tokens.{token_of};
-ghost use Rattle.call_table.specs.Records.{holding, held, is_holding, admits, answered, after_entering, Enters, left};
+ghost use Rattle.call_table.specs.Records.{holding, held, is_holding, admits, answered, after_entering, Enters, MayChange, left, after_changing};
 
 use crate::key::{Key, is_keyed};
 use crate::token::Token;
@@ -20,6 +20,32 @@ fn is_holding(call: Call, channel: u8) -> bool
     ensures yes_exactly_if_it_holds_it { result ≡ is_holding channel call }
 {
     !is_over(call.exchange) && call.channel == channel
+}
+
+// Is no channel held without its token, where the record of a place changes and this token comes in, or none?
+fn enters(before: Option<Call>, after: Option<Call>, token: &Option<Token>) -> bool
+    ensures yes_exactly_if_so { MatchBool result (Enters before after token.now) (Enters before after token.now → ⊥) }
+{
+    let afterwards = holding(after);
+    match token {
+        Some(token) => afterwards == Some(token.channel),
+        None => afterwards.is_none() || afterwards == holding(before),
+    }
+}
+
+// The token that comes out where the record of a place changes and this token is entered with it, or none.
+fn left(before: Option<Call>, after: Option<Call>, token: Option<Token>) -> Option<Token>
+    ensures of_the_channel_left { result ≡ left before after token }
+{
+    // Stays a match: with no `Drop`, a token is spent only by taking it apart.
+    let goes_on = match token {
+        Some(Token { channel: _ }) => false,
+        None => holding(after).is_some(),
+    };
+    if goes_on {
+        return None;
+    }
+    holding(before).map(|channel| Token { channel })
 }
 
 /// 64 places, each with at most one call. A call holds its channel only by the token that was entered with it.
@@ -84,30 +110,23 @@ impl Table {
     }
 
     /// Changes one record. A token that comes in is entered with the record; the token of a channel that the place no longer
-    /// holds comes out. The requirements are for the one place where effects are applied: it has found the place, has seized
-    /// what the record is to hold, and after its other changes has no way back from a refusal.
+    /// holds comes out. No such place, or a channel that would be held without its token: what came in is handed back.
     pub fn change(
         &mut self,
         place: usize,
         after: Option<Call>,
         token: Option<Token>,
-    ) -> Option<Token>
-        requires one_of_the_places { place < 64 }
-        requires no_channel_without_its_token { Enters (slice_index_or self.old.places place None) after token }
-        ensures changes_that_place_alone { self.new.places ≡ slice_set self.old.places place after }
-        ensures gives_out_the_channel_left { result ≡ left (slice_index_or self.old.places place None) after token }
+    ) -> Result<Option<Token>, Option<Token>>
+        ensures taken_exactly_if_allowed { MatchResult result (λ _. MayChange self.old.places place after token) (λ _. MayChange self.old.places place after token → ⊥) }
+        ensures gives_out_the_channel_left_or_hands_back { MatchResult result (λ out. out ≡ left (slice_index_or self.old.places place None) after token) (λ back. back ≡ token) }
+        ensures changes_that_place_alone { self.new.places ≡ after_changing (is_ok result) self.old.places place after }
     {
-        let before = self.holds(place);
-        self.places[place] = after;
-        // Stays a match: with no `Drop`, a token is spent only by taking it apart.
-        let goes_on = match token {
-            Some(Token { channel: _ }) => false,
-            None => holding(after).is_some(),
-        };
-        if goes_on {
-            return None;
+        let before = self.call_at(place);
+        if place >= 64 || !enters(before, after, &token) {
+            return Err(token);
         }
-        before.map(|channel| Token { channel })
+        self.places[place] = after;
+        Ok(left(before, after, token))
     }
 
     /// Removes the call at a place; the token of the channel that it holds comes out.

@@ -7,7 +7,9 @@ use Rattle.calls.specs.declared.sides.SipSide.{SipSide}
 use Rattle.calls.specs.declared.record.Found.{Found}
 use Rattle.calls.specs.declared.record.Origin.{Origin}
 use Rattle.call_table.specs.Records.{holding}
+use Rattle.messages.specs.declared.record.Channel.{Channel}
 use Rattle.call_table.specs.Wishes.{WishGets}
+use Rattle.call_table.specs.Moves.{Took, GaveBack}
 
 -- a call from the exchange on channel c; its digits are awaited
 abbrev pub call_on : ℕ → Call
@@ -18,6 +20,16 @@ call_on c =
 abbrev pub Occupies : Bool → Bool → Bool → ℕ → States → Option ℕ → Type 0
 Occupies true wishedIdle exclusive wished s got = WishGets wishedIdle exclusive wished s got
 Occupies false wishedIdle exclusive wished s got = got ≡ None
+
+abbrev pub wish_of : ℕ → Bool → Channel
+wish_of wished exclusive = record { number = wished; exclusive = exclusive }
+
+-- the moves of the pool: what the wish takes, and, where the place is not free, that channel given back
+module _ {P : Type 0} (state : P → States) (Seizes : P → ℕ → Bool → P → Type 0) (SeizesAny : P → Option ℕ → P → Type 0) (Releases : P → ℕ → Bool → P → Type 0) where
+  abbrev pub TookAndKept : Bool → Channel → P → Option ℕ → P → Type 0
+  TookAndKept true wish before got after = Took Seizes SeizesAny (Some wish) before got after
+  TookAndKept false wish before got after =
+      (taken : Option ℕ) × (between : P) × Took Seizes SeizesAny (Some wish) before taken between × GaveBack state Releases between taken after
 
 abbrev pub after_occupying : Option ℕ → List (Option Call) → ℕ → List (Option Call)
 after_occupying None places place = places

@@ -7,7 +7,8 @@ ghost use Rattle.pools.specs.States.{idle, after_any};
 ghost use Rattle.calls.specs.Rules.{seek};
 ghost use Rattle.call_table.specs.Keys.{keyed};
 ghost use Rattle.call_table.specs.Records.{held, is_free};
-ghost use Rattle.call_table_tests.specs.Stays.{call_on, Occupies, after_occupying, after_vacating, channel_found, after_ending};
+ghost use Rattle.call_table.specs.Moves.{GaveBack};
+ghost use Rattle.call_table_tests.specs.Stays.{call_on, wish_of, Occupies, TookAndKept, after_occupying, after_vacating, channel_found, after_ending};
 
 use call_table::{Key, Table, Token, Trunk};
 use calls::{Call, Digits, ExchangeSide, Origin, SipSide};
@@ -48,6 +49,7 @@ pub fn occupy<P: Pool>(
     ensures by_the_wish_if_the_place_is_free { Occupies (is_free table.old.places place) (idle (P.Pool.state trunk.old.pool wished)) exclusive wished (P.Pool.state trunk.old.pool) result }
     ensures enters_it_there_alone { table.new.places ≡ after_occupying result table.old.places place }
     ensures seizes_it_alone { (k : ℕ) → P.Pool.state trunk.new.pool k ≡ after_any result (P.Pool.state trunk.old.pool) k }
+    ensures moves_the_pool { TookAndKept P.Pool.state P.Pool.Seizes P.Pool.SeizesAny P.Pool.Releases (is_free table.old.places place) (wish_of wished exclusive) trunk.old.pool result trunk.new.pool }
 {
     let wish = Channel {
         number: wished,
@@ -68,6 +70,7 @@ pub fn occupy<P: Pool>(
 fn released<P: Pool>(trunk: &mut Trunk<P>, token: Token) -> u8
     ensures answers_its_channel { result ≡ token.channel }
     ensures releases_it_alone { (k : ℕ) → P.Pool.state trunk.new.pool k ≡ after_vacating (Some token.channel) (P.Pool.state trunk.old.pool) k }
+    ensures moves_the_pool { GaveBack P.Pool.state P.Pool.Releases trunk.old.pool (Some token.channel) trunk.new.pool }
 {
     let channel = token.channel();
     let _ = trunk.release(token);
@@ -79,6 +82,7 @@ pub fn vacate<P: Pool>(trunk: &mut Trunk<P>, table: &mut Table, place: usize) ->
     ensures answers_the_channel_held { result ≡ held table.old.places place }
     ensures frees_that_place_alone { table.new.places ≡ slice_set table.old.places place None }
     ensures releases_it_alone { (k : ℕ) → P.Pool.state trunk.new.pool k ≡ after_vacating result (P.Pool.state trunk.old.pool) k }
+    ensures moves_the_pool { GaveBack P.Pool.state P.Pool.Releases trunk.old.pool result trunk.new.pool }
 {
     let token = table.remove(place)?;
     Some(released(trunk, token))
@@ -89,12 +93,14 @@ pub fn end_exchange_side<P: Pool>(trunk: &mut Trunk<P>, table: &mut Table, key: 
     ensures answers_the_channel_it_held { result ≡ channel_found (seek (keyed key) table.old.places) }
     ensures changes_that_call_alone { table.new.places ≡ after_ending (seek (keyed key) table.old.places) table.old.places }
     ensures releases_it_alone { (k : ℕ) → P.Pool.state trunk.new.pool k ≡ after_vacating result (P.Pool.state trunk.old.pool) k }
+    ensures moves_the_pool { GaveBack P.Pool.state P.Pool.Releases trunk.old.pool result trunk.new.pool }
 {
     let found = table.find(key)?;
     let ended = Call {
         exchange: ExchangeSide::Over,
         ..found.call
     };
-    let token = table.change(found.place, Some(ended), None)?;
-    Some(released(trunk, token))
+    // A side that is over holds no channel, so no token is missing: the change is taken.
+    let (Ok(left) | Err(left)) = table.change(found.place, Some(ended), None);
+    Some(released(trunk, left?))
 }

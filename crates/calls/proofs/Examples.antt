@@ -7,6 +7,7 @@ use Rattle.pools.specs.States.{idle}
 use Rattle.calls.specs.Records.{Answer}
 use Rattle.calls.specs.Rules.{Event, Exchange, Invite, TakeExchange, TakeSip, State, Choice, Fair, outcome, settled, answer_of, Stepping, no_step, next_step}
 use Rattle.calls.specs.Examples.{answered_on, opened, seven_and_nine, seven_alone, digits, disconnect, unavailable, AnsweredAfterCancel, AnsweredTwice, TriedOnAnother, TriedInVain, Collisions, Examples}
+use Rattle.calls.proofs.Always.{way, always_after_cancel, always_twice}
 
 -- one event more
 then : {entry st : State} {evs : List Event} {ans : List Answer} → Stepping entry evs ans st → (ch : Choice) (ev : Event) → Fair st ch → Stepping entry (evs ++ ev ∷ []) (ans ++ answer_of st (outcome st ch ev) ∷ []) (settled st (outcome st ch ev))
@@ -28,36 +29,42 @@ busy k = go (eqb k 7)
     go false = refl
 
 answered_after_cancel : AnsweredAfterCancel
-answered_after_cancel =
-    let s0 : Stepping (opened seven_and_nine) [] [] (opened seven_and_nine) = no_step in
-    let s1 = then s0 (on 7 0) (Exchange setup417_octets) (record { pick = refl; place = (lit≤ tt, refl) }) in
-    let s2 = then s1 (on 9 1) (Exchange disconnect) (record { pick = refl; place = (lit≤ tt, refl) }) in
-    let s3 = then s2 (on 9 1) (answered_on 70) (record { pick = refl; place = (lit≤ tt, refl) }) in
-    let s4 = then s3 (on 9 1) TakeExchange (record { pick = refl; place = (lit≤ tt, refl) }) in
-    let s5 = then s4 (on 9 1) TakeExchange (record { pick = refl; place = (lit≤ tt, refl) }) in
-    let s6 = then s5 (on 9 1) TakeExchange (record { pick = refl; place = (lit≤ tt, refl) }) in
-    let s7 = then s6 (on 9 1) TakeSip (record { pick = refl; place = (lit≤ tt, refl) }) in
-    let s8 = then s7 (on 9 1) TakeSip (record { pick = refl; place = (lit≤ tt, refl) }) in
-    let s9 = then s8 (on 9 1) TakeSip (record { pick = refl; place = (lit≤ tt, refl) }) in
-    let s10 = then s9 (on 9 1) TakeSip (record { pick = refl; place = (lit≤ tt, refl) }) in
-    let s11 = then s10 (on 9 1) TakeSip (record { pick = refl; place = (lit≤ tt, refl) }) in
-    record { exit = _; steps = s11; at_exit = refl }
+answered_after_cancel = record {
+  some =
+      let s0 : Stepping (opened seven_and_nine) [] [] (opened seven_and_nine) = no_step in
+      let s1 = then s0 (on 7 0) (Exchange setup417_octets) (record { pick = refl; place = (lit≤ tt, refl) }) in
+      let s2 = then s1 (on 9 1) (Exchange disconnect) (record { pick = refl; place = (lit≤ tt, refl) }) in
+      let s3 = then s2 (on 9 1) (answered_on 1) (record { pick = refl; place = (lit≤ tt, refl) }) in
+      let s4 = then s3 (on 9 1) TakeExchange (record { pick = refl; place = (lit≤ tt, refl) }) in
+      let s5 = then s4 (on 9 1) TakeExchange (record { pick = refl; place = (lit≤ tt, refl) }) in
+      let s6 = then s5 (on 9 1) TakeExchange (record { pick = refl; place = (lit≤ tt, refl) }) in
+      let s7 = then s6 (on 9 1) TakeSip (record { pick = refl; place = (lit≤ tt, refl) }) in
+      let s8 = then s7 (on 9 1) TakeSip (record { pick = refl; place = (lit≤ tt, refl) }) in
+      let s9 = then s8 (on 9 1) TakeSip (record { pick = refl; place = (lit≤ tt, refl) }) in
+      let s10 = then s9 (on 9 1) TakeSip (record { pick = refl; place = (lit≤ tt, refl) }) in
+      let s11 = then s10 (on 9 1) TakeSip (record { pick = refl; place = (lit≤ tt, refl) }) in
+      record { exit = _; steps = s11; at_exit = refl };
+  all = λ given exit steps. always_after_cancel.tells given exit (way steps);
+}
 
 answered_twice : AnsweredTwice
-answered_twice =
-    let s0 : Stepping (opened seven_and_nine) [] [] (opened seven_and_nine) = no_step in
-    let s1 = then s0 (on 7 0) (Exchange setup417_octets) (record { pick = refl; place = (lit≤ tt, refl) }) in
-    let s2 = then s1 (on 9 1) (answered_on 70) (record { pick = refl; place = (lit≤ tt, refl) }) in
-    let s3 = then s2 (on 9 1) (answered_on 71) (record { pick = refl; place = (lit≤ tt, refl) }) in
-    let s4 = then s3 (on 9 1) TakeExchange (record { pick = refl; place = (lit≤ tt, refl) }) in
-    let s5 = then s4 (on 9 1) TakeExchange (record { pick = refl; place = (lit≤ tt, refl) }) in
-    let s6 = then s5 (on 9 1) TakeExchange (record { pick = refl; place = (lit≤ tt, refl) }) in
-    let s7 = then s6 (on 9 1) TakeSip (record { pick = refl; place = (lit≤ tt, refl) }) in
-    let s8 = then s7 (on 9 1) TakeSip (record { pick = refl; place = (lit≤ tt, refl) }) in
-    let s9 = then s8 (on 9 1) TakeSip (record { pick = refl; place = (lit≤ tt, refl) }) in
-    let s10 = then s9 (on 9 1) TakeSip (record { pick = refl; place = (lit≤ tt, refl) }) in
-    let s11 = then s10 (on 9 1) TakeSip (record { pick = refl; place = (lit≤ tt, refl) }) in
-    record { exit = _; steps = s11; at_exit = refl }
+answered_twice = record {
+  some =
+      let s0 : Stepping (opened seven_and_nine) [] [] (opened seven_and_nine) = no_step in
+      let s1 = then s0 (on 7 0) (Exchange setup417_octets) (record { pick = refl; place = (lit≤ tt, refl) }) in
+      let s2 = then s1 (on 9 1) (answered_on 1) (record { pick = refl; place = (lit≤ tt, refl) }) in
+      let s3 = then s2 (on 9 1) (answered_on 2) (record { pick = refl; place = (lit≤ tt, refl) }) in
+      let s4 = then s3 (on 9 1) TakeExchange (record { pick = refl; place = (lit≤ tt, refl) }) in
+      let s5 = then s4 (on 9 1) TakeExchange (record { pick = refl; place = (lit≤ tt, refl) }) in
+      let s6 = then s5 (on 9 1) TakeExchange (record { pick = refl; place = (lit≤ tt, refl) }) in
+      let s7 = then s6 (on 9 1) TakeSip (record { pick = refl; place = (lit≤ tt, refl) }) in
+      let s8 = then s7 (on 9 1) TakeSip (record { pick = refl; place = (lit≤ tt, refl) }) in
+      let s9 = then s8 (on 9 1) TakeSip (record { pick = refl; place = (lit≤ tt, refl) }) in
+      let s10 = then s9 (on 9 1) TakeSip (record { pick = refl; place = (lit≤ tt, refl) }) in
+      let s11 = then s10 (on 9 1) TakeSip (record { pick = refl; place = (lit≤ tt, refl) }) in
+      record { exit = _; steps = s11; at_exit = refl };
+  all = λ given exit steps. always_twice.tells given exit (way steps);
+}
 
 tried_on_another : TriedOnAnother
 tried_on_another =

@@ -6,5 +6,6 @@ pub mod Dids
 pub mod Steps
 pub mod Runs
 pub mod Histories
+pub mod Always
 pub mod Examples
 pub mod Sounds

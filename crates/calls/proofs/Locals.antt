@@ -10,6 +10,7 @@ use Rattle.causes.proofs.Rows.{final_failure}
 use Rattle.pools.specs.States.{States, AnyWasIdle}
 use Rattle.calls.specs.Sides.{is_in, is_over, is_unreleased, is_running, is_cancel_sent, awaits_response, is_unanswered, is_held_by}
 use Rattle.calls.specs.Effects.{Effect, meant, record_of, called_digits, counted, status_for, only, proceeds, spurns, awaits, dials, collects, ended, tries_again, disconnected, released, asks_for_another, completed, on_type, on_timer, on_expiry, on_cancel_expiry, news_of, tells, provisional, fails, accepts, leaves}
+use Rattle.calls.specs.Rules.{by_number}
 use Rattle.calls.specs.Laws.{Brought, AnOk, ABye, NoneOfThese}
 use Rattle.calls.specs.Standing.{sides_agree}
 use Rattle.calls.proofs.Balance.{Balanced, Uninvited, Quiet}
@@ -33,6 +34,11 @@ module _ (pool : States) (ev : Brought) (u : Uninvited ev) (q : Quiet ev) (k : C
           connects = λ r. grind (arith, nat_tests);
           dialogues = λ d b. grind (arith, nat_tests);
           answered = λ last l. grind (arith, nat_tests);
+          keepers = λ d c. grind (arith, nat_tests);
+          byes = λ o d b. grind (arith, nat_tests);
+          numbers = λ n. grind (arith, nat_tests);
+          few = grind (arith, nat_tests);
+          origin = λ o. grind (arith, nat_tests);
           stands = grind (arith, nat_tests);
         }
 
@@ -44,6 +50,11 @@ module _ (pool : States) (ev : Brought) (u : Uninvited ev) (q : Quiet ev) (k : C
           connects = λ r. grind (arith, nat_tests);
           dialogues = λ d b. grind (arith, nat_tests);
           answered = λ last l. grind (arith, nat_tests);
+          keepers = λ d c. grind (arith, nat_tests);
+          byes = λ o d b. grind (arith, nat_tests);
+          numbers = λ n. grind (arith, nat_tests);
+          few = grind (arith, nat_tests);
+          origin = λ o. grind (arith, nat_tests);
           stands = grind (arith, nat_tests);
         }
 
@@ -55,6 +66,11 @@ module _ (pool : States) (ev : Brought) (u : Uninvited ev) (q : Quiet ev) (k : C
           connects = λ r. grind (arith, nat_tests);
           dialogues = λ d b. grind (arith, nat_tests);
           answered = λ last l. grind (arith, nat_tests);
+          keepers = λ d c. grind (arith, nat_tests);
+          byes = λ o d b. grind (arith, nat_tests);
+          numbers = λ n. grind (arith, nat_tests);
+          few = grind (arith, nat_tests);
+          origin = λ o. grind (arith, nat_tests);
           stands = grind (arith, nat_tests);
         }
 
@@ -80,6 +96,11 @@ module _ (pool : States) (ev : Brought) (u : Uninvited ev) (q : Quiet ev) (k : C
             connects = λ r. grind (arith, nat_tests);
             dialogues = λ d b. grind (arith, nat_tests);
             answered = λ last l. grind (arith, nat_tests);
+            keepers = λ d c. grind (arith, nat_tests);
+            byes = λ o d b. grind (arith, nat_tests);
+            numbers = λ n. grind (arith, nat_tests);
+            few = grind (arith, nat_tests);
+            origin = λ o. grind (arith, nat_tests);
             stands = grind (arith, nat_tests);
           }
 
@@ -91,6 +112,11 @@ module _ (pool : States) (ev : Brought) (u : Uninvited ev) (q : Quiet ev) (k : C
             connects = λ r. grind (arith, nat_tests);
             dialogues = λ d b. grind (arith, nat_tests);
             answered = λ last l. grind (arith, nat_tests);
+            keepers = λ d c. grind (arith, nat_tests);
+            byes = λ o d b. grind (arith, nat_tests);
+            numbers = λ n. grind (arith, nat_tests);
+            few = grind (arith, nat_tests);
+            origin = λ o. grind (arith, nat_tests);
             stands = grind (arith, nat_tests);
           }
 
@@ -102,6 +128,11 @@ module _ (pool : States) (ev : Brought) (u : Uninvited ev) (q : Quiet ev) (k : C
             connects = λ r. grind (arith, nat_tests);
             dialogues = λ d b. grind (arith, nat_tests);
             answered = λ last l. grind (arith, nat_tests);
+            keepers = λ d c. grind (arith, nat_tests);
+            byes = λ o d b. grind (arith, nat_tests);
+            numbers = λ n. grind (arith, nat_tests);
+            few = grind (arith, nat_tests);
+            origin = λ o. grind (arith, nat_tests);
             stands = grind (arith, nat_tests);
           }
 
@@ -114,6 +145,11 @@ module _ (pool : States) (ev : Brought) (u : Uninvited ev) (q : Quiet ev) (k : C
           connects = λ r. grind (arith, nat_tests);
           dialogues = λ d b. grind (arith, nat_tests);
           answered = λ last l. grind (arith, nat_tests);
+          keepers = λ d c. grind (arith, nat_tests);
+          byes = λ o d b. grind (arith, nat_tests);
+          numbers = λ n. grind (arith, nat_tests);
+          few = grind (arith, nat_tests);
+          origin = λ o. grind (arith, nat_tests);
           stands = grind (arith, nat_tests);
         }
 
@@ -131,6 +167,11 @@ module _ (pool : States) (ev : Brought) (u : Uninvited ev) (q : Quiet ev) (k : C
           connects = λ r. grind (arith, nat_tests);
           dialogues = λ d b. grind (arith, nat_tests);
           answered = λ last l. grind (arith, nat_tests);
+          keepers = λ d c. grind (arith, nat_tests);
+          byes = λ o d b. grind (arith, nat_tests);
+          numbers = λ n. grind (arith, nat_tests);
+          few = grind (arith, nat_tests);
+          origin = λ o. grind (arith, nat_tests);
           stands = grind (arith, nat_tests);
         })
     on_type_keeps full pick i m MessageType.CallProceeding =
@@ -140,6 +181,11 @@ module _ (pool : States) (ev : Brought) (u : Uninvited ev) (q : Quiet ev) (k : C
           connects = λ r. grind (arith, nat_tests);
           dialogues = λ d b. grind (arith, nat_tests);
           answered = λ last l. grind (arith, nat_tests);
+          keepers = λ d c. grind (arith, nat_tests);
+          byes = λ o d b. grind (arith, nat_tests);
+          numbers = λ n. grind (arith, nat_tests);
+          few = grind (arith, nat_tests);
+          origin = λ o. grind (arith, nat_tests);
           stands = grind (arith, nat_tests);
         })
     on_type_keeps full pick i m MessageType.Progress =
@@ -149,6 +195,11 @@ module _ (pool : States) (ev : Brought) (u : Uninvited ev) (q : Quiet ev) (k : C
           connects = λ r. grind (arith, nat_tests);
           dialogues = λ d b. grind (arith, nat_tests);
           answered = λ last l. grind (arith, nat_tests);
+          keepers = λ d c. grind (arith, nat_tests);
+          byes = λ o d b. grind (arith, nat_tests);
+          numbers = λ n. grind (arith, nat_tests);
+          few = grind (arith, nat_tests);
+          origin = λ o. grind (arith, nat_tests);
           stands = grind (arith, nat_tests);
         })
     on_type_keeps full pick i m MessageType.Setup = grind (arith, nat_tests)
@@ -159,6 +210,11 @@ module _ (pool : States) (ev : Brought) (u : Uninvited ev) (q : Quiet ev) (k : C
           connects = λ r. grind (arith, nat_tests);
           dialogues = λ d b. grind (arith, nat_tests);
           answered = λ last l. grind (arith, nat_tests);
+          keepers = λ d c. grind (arith, nat_tests);
+          byes = λ o d b. grind (arith, nat_tests);
+          numbers = λ n. grind (arith, nat_tests);
+          few = grind (arith, nat_tests);
+          origin = λ o. grind (arith, nat_tests);
           stands = grind (arith, nat_tests);
         })
     on_type_keeps full pick i m MessageType.SetupAcknowledge = grind (arith, nat_tests)
@@ -169,6 +225,11 @@ module _ (pool : States) (ev : Brought) (u : Uninvited ev) (q : Quiet ev) (k : C
           connects = λ r. grind (arith, nat_tests);
           dialogues = λ d b. grind (arith, nat_tests);
           answered = λ last l. grind (arith, nat_tests);
+          keepers = λ d c. grind (arith, nat_tests);
+          byes = λ o d b. grind (arith, nat_tests);
+          numbers = λ n. grind (arith, nat_tests);
+          few = grind (arith, nat_tests);
+          origin = λ o. grind (arith, nat_tests);
           stands = grind (arith, nat_tests);
         })
     on_type_keeps full pick i m MessageType.Disconnect = let final = status_final m.elements.cause in only_keeps _ _ (disconnected_keeps _ final.0 final.1)
@@ -185,6 +246,11 @@ module _ (pool : States) (ev : Brought) (u : Uninvited ev) (q : Quiet ev) (k : C
           connects = λ r. grind (arith, nat_tests);
           dialogues = λ d b. grind (arith, nat_tests);
           answered = λ last l. grind (arith, nat_tests);
+          keepers = λ d c. grind (arith, nat_tests);
+          byes = λ o d b. grind (arith, nat_tests);
+          numbers = λ n. grind (arith, nat_tests);
+          few = grind (arith, nat_tests);
+          origin = λ o. grind (arith, nat_tests);
           stands = grind (arith, nat_tests);
         }
     on_timer_keeps Timer.T302 e =
@@ -194,6 +260,11 @@ module _ (pool : States) (ev : Brought) (u : Uninvited ev) (q : Quiet ev) (k : C
           connects = λ r. grind (arith, nat_tests);
           dialogues = λ d b. grind (arith, nat_tests);
           answered = λ last l. grind (arith, nat_tests);
+          keepers = λ d c. grind (arith, nat_tests);
+          byes = λ o d b. grind (arith, nat_tests);
+          numbers = λ n. grind (arith, nat_tests);
+          few = grind (arith, nat_tests);
+          origin = λ o. grind (arith, nat_tests);
           stands = grind (arith, nat_tests);
         }
     on_timer_keeps Timer.T303 e =
@@ -203,6 +274,11 @@ module _ (pool : States) (ev : Brought) (u : Uninvited ev) (q : Quiet ev) (k : C
           connects = λ r. grind (arith, nat_tests);
           dialogues = λ d b. grind (arith, nat_tests);
           answered = λ last l. grind (arith, nat_tests);
+          keepers = λ d c. grind (arith, nat_tests);
+          byes = λ o d b. grind (arith, nat_tests);
+          numbers = λ n. grind (arith, nat_tests);
+          few = grind (arith, nat_tests);
+          origin = λ o. grind (arith, nat_tests);
           stands = grind (arith, nat_tests);
         }
     on_timer_keeps Timer.T305 e =
@@ -212,6 +288,11 @@ module _ (pool : States) (ev : Brought) (u : Uninvited ev) (q : Quiet ev) (k : C
           connects = λ r. grind (arith, nat_tests);
           dialogues = λ d b. grind (arith, nat_tests);
           answered = λ last l. grind (arith, nat_tests);
+          keepers = λ d c. grind (arith, nat_tests);
+          byes = λ o d b. grind (arith, nat_tests);
+          numbers = λ n. grind (arith, nat_tests);
+          few = grind (arith, nat_tests);
+          origin = λ o. grind (arith, nat_tests);
           stands = grind (arith, nat_tests);
         }
     on_timer_keeps Timer.T308 e =
@@ -221,6 +302,11 @@ module _ (pool : States) (ev : Brought) (u : Uninvited ev) (q : Quiet ev) (k : C
           connects = λ r. grind (arith, nat_tests);
           dialogues = λ d b. grind (arith, nat_tests);
           answered = λ last l. grind (arith, nat_tests);
+          keepers = λ d c. grind (arith, nat_tests);
+          byes = λ o d b. grind (arith, nat_tests);
+          numbers = λ n. grind (arith, nat_tests);
+          few = grind (arith, nat_tests);
+          origin = λ o. grind (arith, nat_tests);
           stands = grind (arith, nat_tests);
         }
     on_timer_keeps Timer.T310 e =
@@ -230,6 +316,11 @@ module _ (pool : States) (ev : Brought) (u : Uninvited ev) (q : Quiet ev) (k : C
           connects = λ r. grind (arith, nat_tests);
           dialogues = λ d b. grind (arith, nat_tests);
           answered = λ last l. grind (arith, nat_tests);
+          keepers = λ d c. grind (arith, nat_tests);
+          byes = λ o d b. grind (arith, nat_tests);
+          numbers = λ n. grind (arith, nat_tests);
+          few = grind (arith, nat_tests);
+          origin = λ o. grind (arith, nat_tests);
           stands = grind (arith, nat_tests);
         }
     on_timer_keeps Timer.T313 e =
@@ -239,6 +330,11 @@ module _ (pool : States) (ev : Brought) (u : Uninvited ev) (q : Quiet ev) (k : C
           connects = λ r. grind (arith, nat_tests);
           dialogues = λ d b. grind (arith, nat_tests);
           answered = λ last l. grind (arith, nat_tests);
+          keepers = λ d c. grind (arith, nat_tests);
+          byes = λ o d b. grind (arith, nat_tests);
+          numbers = λ n. grind (arith, nat_tests);
+          few = grind (arith, nat_tests);
+          origin = λ o. grind (arith, nat_tests);
           stands = grind (arith, nat_tests);
         }
 
@@ -253,6 +349,11 @@ module _ (pool : States) (ev : Brought) (u : Uninvited ev) (q : Quiet ev) (k : C
         connects = λ r. grind (arith, nat_tests);
         dialogues = λ d b. grind (arith, nat_tests);
         answered = λ last l. grind (arith, nat_tests);
+        keepers = λ d c. grind (arith, nat_tests);
+        byes = λ o d b. grind (arith, nat_tests);
+        numbers = λ n. grind (arith, nat_tests);
+        few = grind (arith, nat_tests);
+        origin = λ o. grind (arith, nat_tests);
         stands = grind (arith, nat_tests);
       }) (λ _. tt)
 
@@ -265,6 +366,11 @@ module _ (pool : States) (ev : Brought) (u : Uninvited ev) (q : Quiet ev) (k : C
         connects = λ r. grind (arith, nat_tests);
         dialogues = λ d b. grind (arith, nat_tests);
         answered = λ last l. grind (arith, nat_tests);
+        keepers = λ d c. grind (arith, nat_tests);
+        byes = λ o d b. grind (arith, nat_tests);
+        numbers = λ n. grind (arith, nat_tests);
+        few = grind (arith, nat_tests);
+        origin = λ o. grind (arith, nat_tests);
         stands = grind (arith, nat_tests);
       }
 
@@ -277,6 +383,11 @@ module _ (pool : States) (ev : Brought) (u : Uninvited ev) (q : Quiet ev) (k : C
         connects = λ r. grind (arith, nat_tests);
         dialogues = λ d b. grind (arith, nat_tests);
         answered = λ last l. grind (arith, nat_tests);
+        keepers = λ d c. grind (arith, nat_tests);
+        byes = λ o d b. grind (arith, nat_tests);
+        numbers = λ n. grind (arith, nat_tests);
+        few = grind (arith, nat_tests);
+        origin = λ o. grind (arith, nat_tests);
         stands = grind (arith, nat_tests);
       }
   tells_keeps x media (Some News.InBand) e =
@@ -286,6 +397,11 @@ module _ (pool : States) (ev : Brought) (u : Uninvited ev) (q : Quiet ev) (k : C
         connects = λ r. grind (arith, nat_tests);
         dialogues = λ d b. grind (arith, nat_tests);
         answered = λ last l. grind (arith, nat_tests);
+        keepers = λ d c. grind (arith, nat_tests);
+        byes = λ o d b. grind (arith, nat_tests);
+        numbers = λ n. grind (arith, nat_tests);
+        few = grind (arith, nat_tests);
+        origin = λ o. grind (arith, nat_tests);
         stands = grind (arith, nat_tests);
       }
   tells_keeps x media (Some News.Interworking) e =
@@ -295,6 +411,11 @@ module _ (pool : States) (ev : Brought) (u : Uninvited ev) (q : Quiet ev) (k : C
         connects = λ r. grind (arith, nat_tests);
         dialogues = λ d b. grind (arith, nat_tests);
         answered = λ last l. grind (arith, nat_tests);
+        keepers = λ d c. grind (arith, nat_tests);
+        byes = λ o d b. grind (arith, nat_tests);
+        numbers = λ n. grind (arith, nat_tests);
+        few = grind (arith, nat_tests);
+        origin = λ o. grind (arith, nat_tests);
         stands = grind (arith, nat_tests);
       }
 
@@ -312,6 +433,11 @@ module _ (pool : States) (k : Call) (sound : sides_agree k.exchange k.sip ≡ tr
         connects = λ r. grind (arith, nat_tests);
         dialogues = λ d b. grind (arith, nat_tests);
         answered = λ last l. grind (arith, nat_tests);
+        keepers = λ d c. grind (arith, nat_tests);
+        byes = λ o d b. grind (arith, nat_tests);
+        numbers = λ n. grind (arith, nat_tests);
+        few = grind (arith, nat_tests);
+        origin = λ o. grind (arith, nat_tests);
         stands = grind (arith, nat_tests);
       }
 
@@ -323,44 +449,69 @@ module _ (pool : States) (k : Call) (sound : sides_agree k.exchange k.sip ≡ tr
         connects = λ r. grind (arith, nat_tests);
         dialogues = λ d b. grind (arith, nat_tests);
         answered = λ last l. grind (arith, nat_tests);
+        keepers = λ d c. grind (arith, nat_tests);
+        byes = λ o d b. grind (arith, nat_tests);
+        numbers = λ n. grind (arith, nat_tests);
+        few = grind (arith, nat_tests);
+        origin = λ o. grind (arith, nat_tests);
         stands = grind (arith, nat_tests);
       }
 
-  pub accepts_keeps : (n d : ℕ) (g : SipSide) → k.sip ≡ g → Balanced pool (Some k) (AnOk d) (accepts k n d g)
-  accepts_keeps n d SipSide.None e = grind (arith, nat_tests)
-  accepts_keeps n d (SipSide.InviteSent x) e =
+  pub accepts_keeps : (n d : ℕ) → by_number n k ≡ true → (g : SipSide) → k.sip ≡ g → Balanced pool (Some k) (AnOk d) (accepts k n d g)
+  accepts_keeps n d own SipSide.None e = grind (arith, nat_tests)
+  accepts_keeps n d own (SipSide.InviteSent x) e =
       record {
         channels = λ c. grind (arith, nat_tests);
         invites = λ t. grind (arith, nat_tests);
         connects = λ r. grind (arith, nat_tests);
         dialogues = λ d b. grind (arith, nat_tests);
         answered = λ last l. grind (arith, nat_tests);
+        keepers = λ d c. grind (arith, nat_tests);
+        byes = λ o d b. grind (arith, nat_tests);
+        numbers = λ n. grind (arith, nat_tests);
+        few = grind (arith, nat_tests);
+        origin = λ o. grind (arith, nat_tests);
         stands = grind (arith, nat_tests);
       }
-  accepts_keeps n d (SipSide.InviteUnanswered t y) e =
+  accepts_keeps n d own (SipSide.InviteUnanswered t y) e =
       record {
         channels = λ c. grind (arith, nat_tests);
         invites = λ t. grind (arith, nat_tests);
         connects = λ r. grind (arith, nat_tests);
         dialogues = λ d b. grind (arith, nat_tests);
         answered = λ last l. grind (arith, nat_tests);
+        keepers = λ d c. grind (arith, nat_tests);
+        byes = λ o d b. grind (arith, nat_tests);
+        numbers = λ n. grind (arith, nat_tests);
+        few = grind (arith, nat_tests);
+        origin = λ o. grind (arith, nat_tests);
         stands = grind (arith, nat_tests);
       }
-  accepts_keeps n d (SipSide.Up y) e =
+  accepts_keeps n d own (SipSide.Up y) e =
       record {
         channels = λ c. grind (arith, nat_tests);
         invites = λ t. grind (arith, nat_tests);
         connects = λ r. grind (arith, nat_tests);
         dialogues = λ d b. grind (arith, nat_tests);
         answered = λ last l. grind (arith, nat_tests);
+        keepers = λ d c. grind (arith, nat_tests);
+        byes = λ o d b. grind (arith, nat_tests);
+        numbers = λ n. grind (arith, nat_tests);
+        few = grind (arith, nat_tests);
+        origin = λ o. grind (arith, nat_tests);
         stands = grind (arith, nat_tests);
       }
-  accepts_keeps n d SipSide.CancelSent e =
+  accepts_keeps n d own SipSide.CancelSent e =
       record {
         channels = λ c. grind (arith, nat_tests);
         invites = λ t. grind (arith, nat_tests);
         connects = λ r. grind (arith, nat_tests);
         dialogues = λ d b. grind (arith, nat_tests);
         answered = λ last l. grind (arith, nat_tests);
+        keepers = λ d c. grind (arith, nat_tests);
+        byes = λ o d b. grind (arith, nat_tests);
+        numbers = λ n. grind (arith, nat_tests);
+        few = grind (arith, nat_tests);
+        origin = λ o. grind (arith, nat_tests);
         stands = grind (arith, nat_tests);
       }

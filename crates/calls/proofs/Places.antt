@@ -1,5 +1,5 @@
 -- The places of the table: a search, a sum, and one place that is replaced.
-use Rattle.std.proofs.Common.{◌≡◌, ℕ, zero, suc, ◌+◌, ◌<◌, ◌≤◌, Bool, true, false, List, [], ◌∷◌, length, get_or, set, replicate, Some, None, Option, refl, le_of_suc-le-suc, not-suc-le-zero, arith, MatchOption}
+use Rattle.std.proofs.Common.{◌≡◌, ℕ, zero, suc, ◌+◌, ◌<◌, ◌≤◌, Bool, true, false, List, [], ◌∷◌, length, get_or, set, replicate, Some, None, Option, refl, ap, le_of_suc-le-suc, not-suc-le-zero, arith, MatchOption}
 use Rattle.std.proofs.lemmas.Bool.{cond_both}
 use Rattle.calls.specs.Records.{Call, Found}
 use Rattle.calls.specs.Sides.{on_call, sum_of}
@@ -40,6 +40,33 @@ pub sum_of_le : (f g : Call → ℕ) → ((k : Call) → f k ≤ g k) → (os : 
 sum_of_le f g h [] = omega arith
 sum_of_le f g h (None ∷ os) = omega (arith, sum_of_le f g h os)
 sum_of_le f g h (Some k ∷ os) = omega (arith, sum_of_le f g h os, h k)
+
+-- where something is counted, a call counts
+pub record Counted (f : Call → ℕ) (os : List (Option Call)) : Type 0 where
+  pub place : ℕ
+  pub call : Call
+  pub there : get_or os place None ≡ Some call
+  pub counts : 0 < f call
+
+further : (f : Call → ℕ) (o : Option Call) (os : List (Option Call)) → Counted f os → Counted f (o ∷ os)
+further f o os x = record { place = suc x.place; call = x.call; there = x.there; counts = x.counts }
+
+first_counted : (f : Call → ℕ) (k : Call) (os : List (Option Call)) (n : ℕ) → f k ≡ n → (0 < sum_of f os → Counted f os) → 0 < n + sum_of f os → Counted f (Some k ∷ os)
+first_counted f k os zero e rest h = further f (Some k) os (rest (omega (arith, h)))
+first_counted f k os (suc n) e rest h = record { place = 0; call = k; there = refl; counts = omega (arith, e) }
+
+pub counted : (f : Call → ℕ) (os : List (Option Call)) → 0 < sum_of f os → Counted f os
+counted f [] h = absurd (not-suc-le-zero h)
+counted f (None ∷ os) h = further f None os (counted f os (omega (arith, h)))
+counted f (Some k ∷ os) h = first_counted f k os (f k) refl (counted f os) h
+
+-- two places that count are one, where one is counted in all
+pub one_place : (f : Call → ℕ) (os : List (Option Call)) → sum_of f os ≤ 1 → (i j : ℕ) → 0 < on_call f (get_or os i None) → 0 < on_call f (get_or os j None) → i ≡ j
+one_place f [] h i j a b = absurd (not-suc-le-zero a)
+one_place f (o ∷ os) h zero zero a b = refl
+one_place f (o ∷ os) h zero (suc j) a b = absurd (omega (arith, h, a, b, sum_of_at f os j))
+one_place f (o ∷ os) h (suc i) zero a b = absurd (omega (arith, h, a, b, sum_of_at f os i))
+one_place f (o ∷ os) h (suc i) (suc j) a b = ap suc (one_place f os (omega (arith, h)) i j a b)
 
 -- what a search finds
 pub record Finds (p : Call → Bool) (os : List (Option Call)) (f : Found) : Type 0 where

@@ -19,6 +19,12 @@ pub record Leads (start : State) (events : List Event) (answers : List Answer) (
   pub steps : Stepping start events answers exit
   pub at_exit : holds exit
 
+-- there are steps by these events that lead so, and all steps by them have these answers and end so: whichever idle channel is picked,
+-- and at whichever free place the call stands
+pub record Always (start : State) (events : List Event) (answers : List Answer) (holds : State → Type 0) : Type 0 where
+  pub some : Leads start events answers holds
+  pub all : (given : List Answer) (exit : State) → Stepping start events given exit → (given ≡ answers) × holds exit
+
 -- a gateway without calls, over a pool, with eight places in either queue
 abbrev pub opened : States → State
 opened pool = record { table = replicate 64 None; pool = pool; exchange = []; sip = []; exchange_places = 8; sip_places = 8; next = Some 1; full = 20 }
@@ -65,42 +71,55 @@ abbrev pub sip_takes : SipMessage → Answer
 sip_takes m = Answer.Sip (Some m)
 
 -- the exchange clears while the INVITE is out: RELEASE and CANCEL; a 200 that comes then is acknowledged and ended
-abbrev pub AnsweredAfterCancel : Type 0
-AnsweredAfterCancel =
-    Leads (opened seven_and_nine)
-    (Exchange setup417_octets ∷ Exchange disconnect ∷ answered_on 70 ∷ TakeExchange ∷ TakeExchange ∷ TakeExchange ∷ TakeSip ∷ TakeSip ∷ TakeSip ∷ TakeSip ∷ TakeSip ∷ [])
-    (report (Some 7) None None
+abbrev pub after_cancel_events : List Event
+after_cancel_events =
+    Exchange setup417_octets ∷ Exchange disconnect ∷ answered_on 1
+    ∷ TakeExchange ∷ TakeExchange ∷ TakeExchange ∷ TakeSip ∷ TakeSip ∷ TakeSip ∷ TakeSip ∷ TakeSip ∷ []
+
+abbrev pub after_cancel_answers : List Answer
+after_cancel_answers =
+    report (Some 7) None None
     ∷ Answer.Step (Ok (record { seized = None; released = None; timer = Some Timer.T308; cancelling = true }))
     ∷ report None None None
     ∷ exchange_takes proceeding_on_seven ∷ exchange_takes (bare MessageType.Release) ∷ Answer.Exchange None
-    ∷ sip_takes (SipMessage.Invite 1 (recorded digits)) ∷ sip_takes (SipMessage.Cancel 1) ∷ sip_takes (SipMessage.Ack 1 70) ∷ sip_takes (SipMessage.Bye 70) ∷ Answer.Sip None
-    ∷ [])
-    (λ st. st.pool 7 ≡ Seized)
+    ∷ sip_takes (SipMessage.Invite 1 (recorded digits)) ∷ sip_takes (SipMessage.Cancel 1) ∷ sip_takes (SipMessage.Ack 1 1) ∷ sip_takes (SipMessage.Bye 1) ∷ Answer.Sip None
+    ∷ []
+
+abbrev pub AnsweredAfterCancel : Type 0
+AnsweredAfterCancel = Always (opened seven_and_nine) after_cancel_events after_cancel_answers (λ st. st.pool 7 ≡ Seized)
 
 -- two 200s on two dialogues: one CONNECT, and the second dialogue is acknowledged and ended
-abbrev pub AnsweredTwice : Type 0
-AnsweredTwice =
-    Leads (opened seven_and_nine)
-    (Exchange setup417_octets ∷ answered_on 70 ∷ answered_on 71 ∷ TakeExchange ∷ TakeExchange ∷ TakeExchange ∷ TakeSip ∷ TakeSip ∷ TakeSip ∷ TakeSip ∷ TakeSip ∷ [])
-    (report (Some 7) None None
+abbrev pub twice_events : List Event
+twice_events =
+    Exchange setup417_octets ∷ answered_on 1 ∷ answered_on 2
+    ∷ TakeExchange ∷ TakeExchange ∷ TakeExchange ∷ TakeSip ∷ TakeSip ∷ TakeSip ∷ TakeSip ∷ TakeSip ∷ []
+
+abbrev pub twice_answers : List Answer
+twice_answers =
+    report (Some 7) None None
     ∷ report None None (Some Timer.T313)
     ∷ report None None None
     ∷ exchange_takes proceeding_on_seven ∷ exchange_takes (bare MessageType.Connect) ∷ Answer.Exchange None
-    ∷ sip_takes (SipMessage.Invite 1 (recorded digits)) ∷ sip_takes (SipMessage.Ack 1 70) ∷ sip_takes (SipMessage.Ack 1 71) ∷ sip_takes (SipMessage.Bye 71) ∷ Answer.Sip None
-    ∷ [])
-    (λ st. st.pool 7 ≡ Seized)
+    ∷ sip_takes (SipMessage.Invite 1 (recorded digits)) ∷ sip_takes (SipMessage.Ack 1 1) ∷ sip_takes (SipMessage.Ack 1 2) ∷ sip_takes (SipMessage.Bye 2) ∷ Answer.Sip None
+    ∷ []
 
--- the exchange has no use for channel 7: SETUP goes out on 9, and then 7 is idle
-abbrev pub TriedOnAnother : Type 0
-TriedOnAnother =
-    Leads (opened seven_and_nine)
-    (Invite 30 70 digits ∷ Exchange unavailable ∷ TakeExchange ∷ TakeExchange ∷ TakeExchange ∷ TakeSip ∷ [])
-    (report (Some 7) None (Some Timer.T303)
+abbrev pub AnsweredTwice : Type 0
+AnsweredTwice = Always (opened seven_and_nine) twice_events twice_answers (λ st. st.pool 7 ≡ Seized)
+
+-- the exchange turns channel 7 down: a second SETUP names 9, and 7 is free for others
+abbrev pub another_events : List Event
+another_events = Invite 30 70 digits ∷ Exchange unavailable ∷ TakeExchange ∷ TakeExchange ∷ TakeExchange ∷ TakeSip ∷ []
+
+abbrev pub another_answers : List Answer
+another_answers =
+    report (Some 7) None (Some Timer.T303)
     ∷ report (Some 9) (Some 7) (Some Timer.T303)
     ∷ exchange_takes (setup 7) ∷ exchange_takes (setup 9) ∷ Answer.Exchange None
     ∷ Answer.Sip None
-    ∷ [])
-    (λ st. (st.pool 7 ≡ Idle) × (st.pool 9 ≡ Seized))
+    ∷ []
+
+abbrev pub TriedOnAnother : Type 0
+TriedOnAnother = Leads (opened seven_and_nine) another_events another_answers (λ st. (st.pool 7 ≡ Idle) × (st.pool 9 ≡ Seized))
 
 -- the same with no other channel: 7 is not taken again; 503, and it is idle
 abbrev pub TriedInVain : Type 0

@@ -1,5 +1,6 @@
 -- The run law: what every history of a gateway has to do with the state that it led to.
-use Rattle.std.specs.Prelude.{◌≡◌, ℕ, ◌+◌, ◌<◌, ◌≤◌, Bool, true, false, not, ◌&&◌, ◌||◌, List, [], ◌∷◌, ◌++◌, Some, None, Ok, Err, Option, Result, ◌==◌, if◌then◌else◌, slice_index_or}
+use Rattle.std.specs.Prelude.{◌≡◌, ◌≢◌, ℕ, suc, ◌+◌, ◌<◌, ◌≤◌, Bool, true, false, not, ◌&&◌, ◌||◌, List, [], ◌∷◌, ◌++◌, length, Some, None, Ok, Err, Option, Result, ◌==◌, if◌then◌else◌, nat_le, slice_index_or}
+use Rattle.std.specs.List.{list_all}
 use Rattle.std.specs.Option.{option_to_list}
 use Rattle.calls.specs.Records.{Message, Misread, Answer, Report, SipMessage, Call, Digits, ExchangeSide}
 use Rattle.messages.specs.Elements.{DigitsPart}
@@ -8,7 +9,7 @@ use Rattle.messages.specs.Types.{is_setup}
 use Rattle.causes.specs.Names
 use Rattle.pools.specs.declared.channel.ChannelState.TheVariants.{Idle, Seized}
 use Rattle.pools.specs.States.{States}
-use Rattle.calls.specs.Sides.{is_in, is_invite_sent, is_gone, one_if, equals_some, named, holds, owes, sum_of, holds_dialogue, connects_in, finals_in, bye_in}
+use Rattle.calls.specs.Sides.{is_in, is_over, is_invite_sent, is_gone, one_if, equals_some, named, holds, owes, sum_of, holds_dialogue, connects_in, finals_in, own_invites_in, cancels_in, bye_in}
 use Rattle.calls.specs.Rules.{Event, Exchange, Invite, Bye, Response, State, Stepping}
 use Rattle.calls.specs.Run.{Happening, Opening, Run, HistoryOf}
 
@@ -89,6 +90,13 @@ setups_taken x = total (λ h. on_report (λ r. setup_count x (brought_by h.event
 abbrev pub connects_sent : ℕ → List Happening → ℕ
 connects_sent r = total (λ h. connects_in r h.exchange)
 
+-- INVITEs with number n that were sent, and CANCELs of them
+abbrev pub invites_sent : ℕ → List Happening → ℕ
+invites_sent n = total (λ h. own_invites_in n h.sip)
+
+abbrev pub cancels_sent : ℕ → List Happening → ℕ
+cancels_sent n = total (λ h. cancels_in n h.sip)
+
 -- ---------------------------------------------------------------- dialogues
 abbrev pub is_unrefused : Answer → Bool
 is_unrefused (Answer.Step (Ok r)) = true
@@ -121,6 +129,11 @@ abbrev pub is_unended : ℕ → List Happening → Bool
 is_unended d [] = false
 is_unended d (h ∷ hs) = not (bye_at d h) && (ok_at d (last_dialogue (h ∷ hs)) h || is_unended d hs)
 
+-- what went out to SIP in the last step
+abbrev pub last_sent : List Happening → List SipMessage
+last_sent [] = []
+last_sent (h ∷ hs) = h.sip
+
 -- ---------------------------------------------------------------- the calls of a state
 -- calls that hold channel c
 abbrev pub holders : ℕ → State → ℕ
@@ -139,7 +152,26 @@ pub record Stands (k : Call) : Type 0 where
   pub not_gone : is_gone k ≡ false
   pub invite_while_proceeding : is_invite_sent k.sip ≡ true → is_in ExchangeSide.Proceeding k.exchange ≡ true
 
+-- of a channel on which a call stands: idle at the opening, seized now, and one seizure of it has no release yet
+pub record OnChannel (pool : States) (past : List Happening) (st : State) (c : ℕ) : Type 0 where
+  pub was_idle : pool c ≡ Idle
+  pub is_seized : st.pool c ≡ Seized
+  pub once_more : seizures_of c past ≡ suc (releases_of c past)
+
+-- one call, and no other, has channel c while its exchange side is not over
+pub record InUse (c : ℕ) (st : State) : Type 0 where
+  pub place : ℕ
+  pub call : Call
+  pub there : slice_index_or st.table place None ≡ Some call
+  pub goes_on : is_over call.exchange ≡ false
+  pub channel : call.channel ≡ c
+  pub alone : (i : ℕ) (k : Call) → slice_index_or st.table i None ≡ Some k → is_over k.exchange ≡ false → k.channel ≡ c → i ≡ place
+
 -- ---------------------------------------------------------------- the queues
+-- at most two messages were put into either queue
+abbrev pub puts_few : Happening → Bool
+puts_few h = nat_le (length h.exchange) 2 && nat_le (length h.sip) 2
+
 -- something of each happening, oldest first
 abbrev pub oldest_first : {M : Type 0} → (Happening → List M) → List Happening → List M
 oldest_first f [] = []
@@ -168,18 +200,26 @@ abbrev pub sip_gone : List Happening → List SipMessage
 sip_gone past = oldest_first (λ h. sip_taken h.answer) past
 
 -- ---------------------------------------------------------------- the laws
--- the pool at the opening, the history since, and the state that it led to: of each channel that was idle, of each transaction
--- of an INVITE that came, of each dialogue, of each reference, of each call, and of what was taken and what waits of all that was sent
+-- the pool at the opening, the history since, and the state that it led to: of each channel that was idle, of each call and its
+-- channel, of each transaction of an INVITE that came and each number of one that was sent, of each dialogue, of each reference, of
+-- what one step sends, and of what was taken and what waits of all that was sent
 pub record Laws (pool : States) (past : List Happening) (st : State) : Type 0 where
   pub seizures_balance : (c : ℕ) → pool c ≡ Idle → seizures_of c past ≡ releases_of c past + holders c st
   pub one_holder : (c : ℕ) → pool c ≡ Idle → holders c st ≤ 1
   pub seized_is_held : (c : ℕ) → pool c ≡ Idle → st.pool c ≡ Seized → holders c st ≡ 1
   pub held_is_seized : (c : ℕ) → pool c ≡ Idle → holders c st ≡ 1 → st.pool c ≡ Seized
+  pub channel_until_over : (i : ℕ) (k : Call) → slice_index_or st.table i None ≡ Some k → is_over k.exchange ≡ false → OnChannel pool past st k.channel
+  pub idle_or_in_use : (c : ℕ) → pool c ≡ Idle → st.pool c ≢ Idle → InUse c st
   pub invites_balance : (t : ℕ) → invites_taken t past ≡ finals_sent t past + owing t st
   pub one_owing : (t : ℕ) → owing t st ≤ 1
   pub unended_is_held : (d : ℕ) → is_unended d past ≡ true → 0 < keepers d st
+  pub one_keeper : (d : ℕ) → keepers d st ≤ 1
+  pub byes_end_dialogues : (d : ℕ) → bye_in d (last_sent past) ≡ true → keepers d st ≡ 0
+  pub invites_go_once : (n : ℕ) → invites_sent n past ≤ 1
+  pub cancels_follow_invites : (n : ℕ) → cancels_sent n past ≤ invites_sent n past
   pub connects_were_asked : (r : ℕ) → connects_sent r past ≤ setups_taken r past
   pub calls_stand : (i : ℕ) (k : Call) → slice_index_or st.table i None ≡ Some k → Stands k
+  pub two_at_most : list_all puts_few past ≡ true
   pub exchange_sent_in_order : exchange_gone past ++ st.exchange ≡ exchange_sent past
   pub sip_sent_in_order : sip_gone past ++ st.sip ≡ sip_sent past
 

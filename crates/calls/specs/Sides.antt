@@ -194,6 +194,23 @@ abbrev pub finals_in : ℕ → List SipMessage → ℕ
 finals_in t [] = 0
 finals_in t (m ∷ ms) = final t m + finals_in t ms
 
+-- an INVITE of the gateway's own with number n, and a CANCEL of it
+abbrev pub own_invite : ℕ → SipMessage → ℕ
+own_invite n (SipMessage.Invite x ds) = one_if (x == n)
+own_invite n _ = 0
+
+abbrev pub own_invites_in : ℕ → List SipMessage → ℕ
+own_invites_in n [] = 0
+own_invites_in n (m ∷ ms) = own_invite n m + own_invites_in n ms
+
+abbrev pub cancel : ℕ → SipMessage → ℕ
+cancel n (SipMessage.Cancel x) = one_if (x == n)
+cancel n _ = 0
+
+abbrev pub cancels_in : ℕ → List SipMessage → ℕ
+cancels_in n [] = 0
+cancels_in n (m ∷ ms) = cancel n m + cancels_in n ms
+
 abbrev pub bye : ℕ → SipMessage → Bool
 bye d (SipMessage.Bye x) = x == d
 bye d _ = false

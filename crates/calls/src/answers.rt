@@ -66,6 +66,11 @@ impl From<Misread> for Refused {
 
 /// The number of the ground, the place if there is one, and what the ground means.
 impl fmt::Display for Refused {
+    ghost use Rattle.std.specs.Prelude.{Some};
+    ghost use Rattle.refusals.specs.Grounds.{refusal_text};
+
+    ghost output = { λ refused. Some (refusal_text refused.ground refused.place) };
+
     fn fmt<W: fmt::Write>(&self, f: &mut fmt::Formatter<W>) -> fmt::Result {
         write!(f, "refused {}", self.ground.number())?;
         if let Some(place) = self.place {

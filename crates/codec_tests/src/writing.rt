@@ -3,7 +3,7 @@ use With::*;
 use messages::{CallReference, Cause, Channel, Elements, Message, MessageType};
 use std::alloc::{AllocError, Global};
 use std::test::Fail;
-use writer::{write, write_element};
+use writer::write;
 
 /// What stands in the buffer before a message is written.
 const OLD: u8 = 0xee;
@@ -231,14 +231,5 @@ fn messages_are_written_or_refused(rt: HostRuntime) -> Result<(), Fail> {
         let message = message(flag, number, kind, with);
         assert!(rt; comes_out(rt.alloc(), message, room, said)?, "case {at}");
     }
-    Ok(())
-}
-
-#[test]
-fn an_element_without_room_counts_what_it_put(rt: HostRuntime) -> Result<(), Fail> {
-    let mut bytes = [OLD; 4];
-    let refused = write_element(&mut bytes, 0x70, 0x80, b"123").map_err(|ground| ground.number());
-    assert_eq!(rt; refused, Err(9));
-    assert_eq!(rt; &bytes[0..4], b"\x70\x02\x801".as_slice());
     Ok(())
 }

@@ -1,4 +1,5 @@
 -- What the answers of this crate cite, of the rules, of the crates below and of the lemmas beside them.
+pub use Rattle.call_table.specs.Moves.{Took}
 pub use Rattle.call_table.specs.Tokens.{token_channel}
 pub use Rattle.calls.proofs.Choices.{fair_choice, fair_pick, fair_place}
 pub use Rattle.calls.proofs.Dids.{bounded, did, first_taken, in_room, moved, plainly}
@@ -13,6 +14,7 @@ pub use Rattle.decisions.specs.Outcomes.{outcome_of}
 pub use Rattle.effects.specs.Moves.{effect_of}
 pub use Rattle.gateway.proofs.Seizures.{again_seizes, begins_seizes, granted_by, possible_at, ready_again, ready_begins, seated_by}
 pub use Rattle.gateway.proofs.Channels.{all_unknown}
+pub use Rattle.gateway.proofs.PoolMoves.{moved_by, unmoved, unmoved_quiet, unmoved_refused}
 pub use Rattle.gateway.proofs.Closed.{turned_away_lem, unpicked}
 pub use Rattle.gateway.proofs.Ways.{found_live, full_refused, passed_on, possible_step, replied}
 pub use Rattle.gateway.specs.Stands.{Granted, Possible, Ready, state_of}

@@ -1,3 +1,4 @@
+pub mod PoolMoves
 pub mod Channels
 pub mod Closed
 pub mod Ways

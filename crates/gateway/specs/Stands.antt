@@ -20,6 +20,10 @@ abbrev pub state_of : {P : Type 0} {G : Ghosts P} → (P → States) → Gateway
 state_of state g queues =
     record { table = g.table.places; pool = state g.trunk.pool; exchange = waiting queues.exchange; sip = waiting queues.sip; exchange_places = room queues.exchange; sip_places = room queues.sip; next = g.next; full = g.full }
 
+-- no message waits in either queue
+abbrev pub NothingWaits : Outgoing → Type 0
+NothingWaits queues = (waiting queues.exchange ≡ []) × (waiting queues.sip ≡ [])
+
 -- two messages find a place in either queue
 abbrev pub has_two_places : Outgoing → Bool
 has_two_places queues = has_room (waiting queues.exchange) (room queues.exchange) (waiting queues.sip) (room queues.sip)

@@ -33,7 +33,7 @@ impl<P: Pool> Gateway<P> {
 
     /// The largest channel number of the pool's kind.
     pub fn largest_channel(&self) -> u8
-        ensures answers_the_top_of_the_kind { result ≡ P.Pool.top }
+        ensures answers_the_largest_of_the_kind { result ≡ P.Pool.LARGEST }
     {
         self.trunk.largest()
     }

@@ -1,5 +1,5 @@
 //! The two outgoing queues, which always go together, and answers that touch no call.
-ghost use Rattle.std.specs.Prelude.{◌≡◌, ◌≤◌, [], ◌∷◌, ◌++◌, length, true, false, MatchResult};
+ghost use Rattle.std.specs.Prelude.{◌≡◌, ◌≤◌, [], ◌∷◌, ◌++◌, length, true, false, MatchBool, MatchResult};
 ghost use Rattle.queues.specs.Few.{few_items};
 ghost use Rattle.queues.specs.Waiting.{waiting, room, free};
 ghost use Rattle.calls.specs.declared.outgoing.SipMessage.{SipMessage};
@@ -7,7 +7,7 @@ ghost use Rattle.refusals.specs.declared.Ground.TheVariants.{QueueFull};
 ghost use Rattle.calls.specs.Refusing.{placeless};
 ghost use Rattle.calls.specs.Rules.{quiet};
 ghost use Rattle.calls.specs.Effects.{rejection};
-ghost use Rattle.gateway.specs.Stands.{has_two_places};
+ghost use Rattle.gateway.specs.Stands.{has_two_places, NothingWaits};
 
 use calls::{Digits, Refused, Report, SipMessage};
 use effects::rejection;
@@ -38,14 +38,22 @@ impl<'a> Outgoing<'a> {
         }
     }
 
+    /// Whether nothing waits, for the exchange or for SIP.
+    pub fn is_empty(&self) -> bool
+        ensures yes_exactly_if_nothing_waits { MatchBool result (NothingWaits self.now) (NothingWaits self.now → ⊥) }
+    {
+        self.exchange.is_empty() && self.sip.is_empty()
+    }
+
     /// Lets these messages wait behind the others, in their order.
     pub(crate) fn send(&mut self, exchange: Few<Message<Digits>>, sip: Few<SipMessage>)
         requires room { has_two_places self.old ≡ true }
         ensures rooms_stay { (room self.new.exchange ≡ room self.old.exchange) × (room self.new.sip ≡ room self.old.sip) }
         ensures wait_last { (waiting self.new.exchange ≡ waiting self.old.exchange ++ few_items exchange) × (waiting self.new.sip ≡ waiting self.old.sip ++ few_items sip) }
     {
-        self.exchange.add_few(exchange);
-        self.sip.add_few(sip);
+        // Neither comes back: there is room.
+        let _ = self.exchange.put_few(exchange);
+        let _ = self.sip.put_few(sip);
     }
 
     // That there is room stays a condition of what follows: as a fact of a struct round the queues the check asks for it once more
@@ -73,7 +81,7 @@ pub(crate) fn reject(
     ensures size { room exchange.new ≡ room exchange.old }
     ensures list { waiting exchange.new ≡ waiting exchange.old ++ rejection reference value ∷ [] }
 {
-    exchange.add(rejection(reference, value));
+    let _ = exchange.put(rejection(reference, value));
     Report::default()
 }
 
@@ -84,7 +92,7 @@ pub(crate) fn respond(sip: &mut Queue<'_, SipMessage>, transaction: u64, status:
     ensures size { room sip.new ≡ room sip.old }
     ensures list { waiting sip.new ≡ waiting sip.old ++ SipMessage.Response transaction status ∷ [] }
 {
-    sip.add(SipMessage::Response {
+    let _ = sip.put(SipMessage::Response {
         transaction,
         status,
     });

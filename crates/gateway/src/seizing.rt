@@ -1,5 +1,5 @@
 //! Steps that seize a channel. What is seized travels as a token until it is entered with a call.
-ghost use Rattle.std.specs.Prelude.{◌≡◌, true};
+ghost use Rattle.std.specs.Prelude.{◌≡◌, true, None, Ok};
 ghost use Rattle.calls.specs.declared.answers.Answer.{Answer};
 ghost use Rattle.calls.specs.declared.sides.ExchangeSide.{ExchangeSide};
 ghost use Rattle.calls.specs.Sides.{is_in};
@@ -7,6 +7,7 @@ ghost use Rattle.calls.specs.Effects.{tries_again};
 ghost use Rattle.calls.specs.Rules.{Did, Change, calls_out, is_roomy};
 ghost use Rattle.call_table.specs.Keys.{Within};
 ghost use Rattle.call_table.specs.Tokens.{token_channel};
+ghost use Rattle.gateway.specs.PoolMoves.{PoolMoved};
 ghost use Rattle.gateway.specs.Stands.{state_of};
 
 use crate::gateway::Gateway;
@@ -32,6 +33,7 @@ impl<P: Pool> Gateway<P> {
         requires found { Within (Some found) self.old.table.places }
         requires waits { is_in ExchangeSide.SetupSent found.call.exchange ≡ true }
         requires roomy { is_roomy (state_of P.Pool.state self.old queues.old) ≡ true }
+        ensures moves_the_pool_as_reported { PoolMoved P.Pool None (Answer.Step (Ok result)) self.old.trunk.pool self.new.trunk.pool }
         ensures another_channel_or_none { Did (state_of P.Pool.state self.old queues.old) (λ ch. Change found.place (tries_again ch.pick found.call)) (Answer.Step (Ok result)) (state_of P.Pool.state self.new queues.new) }
     {
         let token = self.trunk.seize_any();
@@ -46,6 +48,7 @@ impl<P: Pool> Gateway<P> {
         queues: &mut Outgoing<'_>,
     ) -> Report
         requires roomy { is_roomy (state_of P.Pool.state self.old queues.old) ≡ true }
+        ensures moves_the_pool_as_reported { PoolMoved P.Pool None (Answer.Step (Ok result)) self.old.trunk.pool self.new.trunk.pool }
         ensures a_call_or_503 { Did (state_of P.Pool.state self.old queues.old) (λ ch. calls_out invite.entry.transaction invite.entry.dialogue invite.entry.digits.octets.now ch.place ch.pick) (Answer.Step (Ok result)) (state_of P.Pool.state self.new queues.new) }
     {
         let Some(place) = self.table.free() else {

@@ -1,11 +1,13 @@
 //! A SETUP that finds no call, read in one place in the order of its rule.
-ghost use Rattle.std.specs.Prelude.{◌≡◌, ℕ, true, MatchResult};
+ghost use Rattle.std.specs.Prelude.{◌≡◌, ℕ, true, Some, Ok, MatchResult};
 ghost use Rattle.pools.specs.States.{after_any};
 ghost use Rattle.calls.specs.declared.answers.Answer.{Answer};
 ghost use Rattle.calls.specs.Rules.{Did, on_setup, is_roomy};
+ghost use Rattle.call_table.specs.Moves.{Took};
 ghost use Rattle.call_table.specs.Tokens.{token_channel};
 ghost use Rattle.reader.specs.Seen.{seen_record};
 ghost use Rattle.gateway.specs.declared.outgoing.Outgoing.{Outgoing};
+ghost use Rattle.gateway.specs.PoolMoves.{PoolMoved};
 ghost use Rattle.gateway.specs.Stands.{state_of, Granted, Rejected, Admitted};
 
 use crate::gateway::Gateway;
@@ -28,6 +30,7 @@ pub(crate) struct NewCall {
 
 /// The token that a wish for this channel gets.
 fn seize_as_wished<P: Pool>(trunk: &mut Trunk<P>, wish: Channel) -> Option<Token>
+    ensures moves_the_pool { Took P.Pool.Seizes P.Pool.SeizesAny (Some wish) trunk.old.pool (token_channel result) trunk.new.pool }
     ensures the_wished_or_any_or_none { Granted (P.Pool.state trunk.old.pool) (Some wish) (token_channel result) }
     ensures seizes_it_alone { (k : ℕ) → P.Pool.state trunk.new.pool k ≡ after_any (token_channel result) (P.Pool.state trunk.old.pool) k }
 {
@@ -36,6 +39,7 @@ fn seize_as_wished<P: Pool>(trunk: &mut Trunk<P>, wish: Channel) -> Option<Token
 
 /// The token that a SETUP gets by its wish for a channel, or without one.
 fn seize_for<P: Pool>(trunk: &mut Trunk<P>, wish: Option<Channel>) -> Option<Token>
+    ensures moves_the_pool { Took P.Pool.Seizes P.Pool.SeizesAny wish trunk.old.pool (token_channel result) trunk.new.pool }
     ensures the_wished_or_any_or_none { Granted (P.Pool.state trunk.old.pool) wish (token_channel result) }
     ensures seizes_it_alone { (k : ℕ) → P.Pool.state trunk.new.pool k ≡ after_any (token_channel result) (P.Pool.state trunk.old.pool) k }
 {
@@ -52,6 +56,9 @@ impl<P: Pool> Gateway<P> {
         ensures by_the_order_of_the_rule { (queues : Outgoing) → MatchResult result
             (λ new. Admitted (state_of P.Pool.state self.old queues) (seen_record message.entry) (P.Pool.state self.new.trunk.pool) new)
             (λ cause. Rejected (state_of P.Pool.state self.old queues) (seen_record message.entry) (P.Pool.state self.new.trunk.pool) cause) }
+        ensures pool_takes_the_channel_of_the_call { MatchResult result
+            (λ new. Took P.Pool.Seizes P.Pool.SeizesAny message.entry.elements.channel self.old.trunk.pool (Some new.token.channel) self.new.trunk.pool)
+            (λ _. self.new.trunk.pool ≡ self.old.trunk.pool) }
         ensures leaves_the_rest { (self.new.table ≡ self.old.table) × (self.new.next ≡ self.old.next) × (self.new.full ≡ self.old.full) }
     {
         let Some(setup) = DialledSetup::new(message) else {
@@ -82,6 +89,7 @@ impl<P: Pool> Gateway<P> {
         queues: &mut Outgoing<'_>,
     ) -> Report
         requires roomy { is_roomy (state_of P.Pool.state self.old queues.old) ≡ true }
+        ensures moves_the_pool_as_reported { PoolMoved P.Pool message.entry.elements.channel (Answer.Step (Ok result)) self.old.trunk.pool self.new.trunk.pool }
         ensures a_call_or_rejected { Did (state_of P.Pool.state self.old queues.old) (λ ch. on_setup (state_of P.Pool.state self.old queues.old) ch (seen_record message.entry)) (Answer.Step (Ok result)) (state_of P.Pool.state self.new queues.new) }
     {
         match self.admit(message) {

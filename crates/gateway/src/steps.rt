@@ -1,13 +1,15 @@
 //! One call for each kind of event, and two that take a message.
-ghost use Rattle.std.specs.Prelude.{◌≡◌, true, false, OnErr};
+ghost use Rattle.std.specs.Prelude.{◌≡◌, Option, true, false, OnErr};
 ghost use Rattle.calls.specs.declared.answers.Answer.{Answer};
 ghost use Rattle.calls.specs.Sides.{is_over};
 ghost use Rattle.calls.specs.Effects.{on_type};
 ghost use Rattle.calls.specs.Rules.{Did, Stepped, Event, Choice, outcome, at, seek, by_reference, on_message, uncalled, roomed, is_roomy, answer_of, settled};
 ghost use Rattle.calls.specs.Rules as rules;
+ghost use Rattle.messages.specs.declared.record.Channel.{Channel};
 ghost use Rattle.call_table.specs.Keys.{Within};
 ghost use Rattle.reader.specs.Seen.{seen_record};
 ghost use Rattle.decisions.specs.Outcomes.{outcome_of};
+ghost use Rattle.gateway.specs.PoolMoves.{MovesPool, PoolMoved, wish_in};
 ghost use Rattle.gateway.specs.Stands.{state_of, Possible};
 
 use crate::gateway::Gateway;
@@ -35,6 +37,7 @@ impl<P: Pool> Gateway<P> {
         requires roomy { is_roomy (state_of P.Pool.state self.old queues.old) ≡ true }
         ensures refusal_leaves_all { OnErr result ((self.new ≡ self.old) × (queues.new ≡ queues.old)) }
         ensures answer_of_the_outcome { Answer.Step result ≡ answer_of (state_of P.Pool.state self.old queues.old) (outcome_of decision) }
+        ensures pool_gives_back_what_is_named { (wish : Option Channel) → PoolMoved P.Pool wish (Answer.Step result) self.old.trunk.pool self.new.trunk.pool }
         ensures outcome_settled { state_of P.Pool.state self.new queues.new ≡ settled (state_of P.Pool.state self.old queues.old) (outcome_of decision) }
     {
         match decision? {
@@ -54,6 +57,7 @@ impl<P: Pool> Gateway<P> {
     ) -> Result<Report, Refused>
         requires possible_with_room { is_roomy (state_of P.Pool.state self.old queues.old) ≡ true → Possible self.old.table.places (outcome_of decision) }
         ensures refusal_leaves_all { OnErr result ((self.new ≡ self.old) × (queues.new ≡ queues.old)) }
+        ensures pool_gives_back_what_is_named { (wish : Option Channel) → PoolMoved P.Pool wish (Answer.Step result) self.old.trunk.pool self.new.trunk.pool }
         ensures a_step_of_each_event_that_comes_to_it { (event : Event) (outcome_is : rules.Outcome) → outcome_of decision ≡ outcome_is → ((ch : Choice) → outcome (state_of P.Pool.state self.old queues.old) ch event ≡ roomed (state_of P.Pool.state self.old queues.old) outcome_is) → Stepped (state_of P.Pool.state self.old queues.old) event (Answer.Step result) (state_of P.Pool.state self.new queues.new) }
     {
         queues.need_room()?;
@@ -64,6 +68,7 @@ impl<P: Pool> Gateway<P> {
     pub fn cancel(&mut self, transaction: u64, queues: &mut Outgoing<'_>) -> Result<Report, Refused>
         ensures refusal_leaves_all { OnErr result ((self.new ≡ self.old) × (queues.new ≡ queues.old)) }
         ensures steps_by_the_rules { Stepped (state_of P.Pool.state self.old queues.old) (Event.Cancel transaction) (Answer.Step result) (state_of P.Pool.state self.new queues.new) }
+        ensures moves_the_pool_as_reported { MovesPool P.Pool self.old (Event.Cancel transaction) (Answer.Step result) self.new }
     {
         let decision = on_cancel(&self.table, transaction);
         self.carry_out(decision, queues)
@@ -73,6 +78,7 @@ impl<P: Pool> Gateway<P> {
     pub fn bye(&mut self, dialogue: u64, queues: &mut Outgoing<'_>) -> Result<Report, Refused>
         ensures refusal_leaves_all { OnErr result ((self.new ≡ self.old) × (queues.new ≡ queues.old)) }
         ensures steps_by_the_rules { Stepped (state_of P.Pool.state self.old queues.old) (Event.Bye dialogue) (Answer.Step result) (state_of P.Pool.state self.new queues.new) }
+        ensures moves_the_pool_as_reported { MovesPool P.Pool self.old (Event.Bye dialogue) (Answer.Step result) self.new }
     {
         let decision = on_bye(&self.table, dialogue);
         self.carry_out(decision, queues)
@@ -86,6 +92,7 @@ impl<P: Pool> Gateway<P> {
     ) -> Result<Report, Refused>
         ensures refusal_leaves_all { OnErr result ((self.new ≡ self.old) × (queues.new ≡ queues.old)) }
         ensures steps_by_the_rules { Stepped (state_of P.Pool.state self.old queues.old) (Event.Response response.number response.status response.dialogue response.media) (Answer.Step result) (state_of P.Pool.state self.new queues.new) }
+        ensures moves_the_pool_as_reported { MovesPool P.Pool self.old (Event.Response response.number response.status response.dialogue response.media) (Answer.Step result) self.new }
     {
         if !is_status(response.status) {
             return Err(Refused::from(Ground::StatusOutOfRange));
@@ -103,6 +110,7 @@ impl<P: Pool> Gateway<P> {
     ) -> Result<Report, Refused>
         ensures refusal_leaves_all { OnErr result ((self.new ≡ self.old) × (queues.new ≡ queues.old)) }
         ensures steps_by_the_rules { Stepped (state_of P.Pool.state self.old queues.old) (Event.Expiry timer reference) (Answer.Step result) (state_of P.Pool.state self.new queues.new) }
+        ensures moves_the_pool_as_reported { MovesPool P.Pool self.old (Event.Expiry timer reference) (Answer.Step result) self.new }
     {
         let decision = on_expiry_of(&self.table, timer, reference);
         self.carry_out(decision, queues)
@@ -116,6 +124,7 @@ impl<P: Pool> Gateway<P> {
     ) -> Result<Report, Refused>
         ensures refusal_leaves_all { OnErr result ((self.new ≡ self.old) × (queues.new ≡ queues.old)) }
         ensures steps_by_the_rules { Stepped (state_of P.Pool.state self.old queues.old) (Event.CancelExpiry number) (Answer.Step result) (state_of P.Pool.state self.new queues.new) }
+        ensures moves_the_pool_as_reported { MovesPool P.Pool self.old (Event.CancelExpiry number) (Answer.Step result) self.new }
     {
         let decision = on_expiry_of_cancel(&self.table, number);
         self.carry_out(decision, queues)
@@ -132,6 +141,7 @@ impl<P: Pool> Gateway<P> {
         requires live { is_over found.call.exchange ≡ false }
         requires roomy { is_roomy (state_of P.Pool.state self.old queues.old) ≡ true }
         ensures refusal_leaves_all { OnErr result ((self.new ≡ self.old) × (queues.new ≡ queues.old)) }
+        ensures moves_the_pool_as_reported { PoolMoved P.Pool (wish_in (seen_record message.entry)) (Answer.Step result) self.old.trunk.pool self.new.trunk.pool }
         ensures by_type_and_state { Did (state_of P.Pool.state self.old queues.old) (λ ch. at found.place (on_type self.old.full ch.pick (seen_record message.entry) found.call message.entry.kind)) (Answer.Step result) (state_of P.Pool.state self.new queues.new) }
     {
         if wants_another(message, found.call) {
@@ -150,6 +160,7 @@ impl<P: Pool> Gateway<P> {
     ) -> Result<Report, Refused>
         requires roomy { is_roomy (state_of P.Pool.state self.old queues.old) ≡ true }
         ensures refusal_leaves_all { OnErr result ((self.new ≡ self.old) × (queues.new ≡ queues.old)) }
+        ensures moves_the_pool_as_reported { PoolMoved P.Pool (wish_in (seen_record message.entry)) (Answer.Step result) self.old.trunk.pool self.new.trunk.pool }
         ensures begun_or_turned_away { Did (state_of P.Pool.state self.old queues.old) (λ ch. uncalled (state_of P.Pool.state self.old queues.old) ch (seen_record message.entry) message.entry.kind) (Answer.Step result) (state_of P.Pool.state self.new queues.new) }
     {
         if message.kind.is_setup() {
@@ -166,6 +177,7 @@ impl<P: Pool> Gateway<P> {
         queues: &mut Outgoing<'_>,
     ) -> Result<Report, Refused>
         ensures refusal_leaves_all { OnErr result ((self.new ≡ self.old) × (queues.new ≡ queues.old)) }
+        ensures moves_the_pool_as_reported { PoolMoved P.Pool (wish_in (seen_record message.entry)) (Answer.Step result) self.old.trunk.pool self.new.trunk.pool }
         ensures by_the_rules { Did (state_of P.Pool.state self.old queues.old) (λ ch. roomed (state_of P.Pool.state self.old queues.old) (on_message (state_of P.Pool.state self.old queues.old) ch (seen_record message.entry) (seek (by_reference message.entry.reference) self.old.table.places))) (Answer.Step result) (state_of P.Pool.state self.new queues.new) }
     {
         queues.need_room()?;
@@ -179,6 +191,7 @@ impl<P: Pool> Gateway<P> {
     pub fn message(&mut self, octets: &[u8], queues: &mut Outgoing<'_>) -> Result<Report, Refused>
         ensures refusal_leaves_all { OnErr result ((self.new ≡ self.old) × (queues.new ≡ queues.old)) }
         ensures steps_by_the_rules { Stepped (state_of P.Pool.state self.old queues.old) (Event.Exchange octets.now) (Answer.Step result) (state_of P.Pool.state self.new queues.new) }
+        ensures moves_the_pool_as_reported { MovesPool P.Pool self.old (Event.Exchange octets.now) (Answer.Step result) self.new }
     {
         let message = read(octets)?;
         self.on_message(message, queues)
@@ -192,6 +205,7 @@ impl<P: Pool> Gateway<P> {
     ) -> Result<Report, Refused>
         ensures refusal_leaves_all { OnErr result ((self.new ≡ self.old) × (queues.new ≡ queues.old)) }
         ensures steps_by_the_rules { Stepped (state_of P.Pool.state self.old queues.old) (Event.Invite invite.entry.transaction invite.entry.dialogue invite.entry.digits.now) (Answer.Step result) (state_of P.Pool.state self.new queues.new) }
+        ensures moves_the_pool_as_reported { MovesPool P.Pool self.old (Event.Invite invite.entry.transaction invite.entry.dialogue invite.entry.digits.now) (Answer.Step result) self.new }
     {
         queues.need_room()?;
         screen(&self.table, invite)?;

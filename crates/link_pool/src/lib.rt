@@ -1,9 +1,10 @@
-//! The pool of a link of 30 channels: 1 to 15 and 17 to 31. It takes the highest idle channel.
+//! The pool of a link: the 30 channels up to 31 but for 16. It takes the highest idle channel.
 #![tactic(auto)]
 
-ghost use Rattle.std.specs.Prelude.{◌≡◌, ℕ, true, if◌then◌else◌};
-ghost use Rattle.pools.specs.States.{AnyWasIdle, after_any, known, put};
-ghost use Rattle.link_pool.specs.Links.{at, same, LinkChannels, all_idle, HighestIdle};
+ghost use Rattle.std.specs.Prelude.{◌≡◌, ℕ, true, MatchBool};
+ghost use Rattle.pools.specs.States.{known, idle, seized};
+ghost use Rattle.pools.specs.declared.channel.ChannelState.TheVariants.{Idle, Seized};
+ghost use Rattle.link_pool.specs.Links.{largest, at, same, LinkChannels, all_idle, HighestIdle, Turns, TakesHighest, changed};
 ghost use Rattle.std.proofs.Common.{rules, arith};
 
 use pools::{ChannelState, Pool};
@@ -65,32 +66,35 @@ impl LinkPool {
         requires from_a_known_one { known from ≡ true }
         requires to_a_known_one { known to ≡ true }
         ensures turned_exactly_if_so { result ≡ same from (at self.old.channels c) }
-        ensures turns_it_alone { (k : ℕ) → at self.new.channels k ≡ (if result then put (at self.old.channels) c to k else at self.old.channels k) }
+        ensures turns_it_alone { self.new.channels ≡ changed result self.old.channels c to }
+        ensures refusal_leaves_it { MatchBool result (Unit {0}) (self.new ≡ self.old) }
     {
-        let turned = self.state_of(c) == from;
-        if turned {
-            self.channels[usize::from(c)] = to;
+        if self.state_of(c) != from {
+            return false;
         }
-        turned
+        self.channels[usize::from(c)] = to;
+        true
     }
 }
 
 impl Pool for LinkPool {
     const LARGEST: u8 = 31;
 
+    ghost LARGEST = { largest };
+
     ghost state = { λ p. at p.channels };
 
-    ghost top = { 31 };
+    ghost Seizes = { λ p c granted q. Turns idle Seized p.channels c granted q.channels };
+
+    ghost SeizesAny = { λ p taken q. TakesHighest p.channels taken q.channels };
+
+    ghost Releases = { λ p c granted q. Turns seized Idle p.channels c granted q.channels };
 
     ghost zero_unknown = { Prim.search rules };
 
-    ghost known_within_top = { Prim.search rules };
+    ghost known_within_largest = { Prim.search rules };
 
-    ghost top_within_127 = { Prim.search rules };
-
-    fn largest_channel() -> u8 {
-        Self::LARGEST
-    }
+    ghost largest_within_127 = { Prim.search rules };
 
     fn is_idle(&self, c: u8) -> bool {
         self.state_of(c).is_idle()
@@ -100,11 +104,7 @@ impl Pool for LinkPool {
         self.turn(c, ChannelState::Idle, ChannelState::Seized)
     }
 
-    fn seize_any(&mut self) -> Option<u8>
-        ensures granted_exactly_if_one_is_idle { AnyWasIdle result (at self.old.channels) }
-        ensures grant_seizes_it_alone { (k : ℕ) → at self.new.channels k ≡ after_any result (at self.old.channels) k }
-        ensures takes_the_highest_idle { HighestIdle result (at self.old.channels) }
-    {
+    fn seize_any(&mut self) -> Option<u8> {
         let c = self.highest_idle()?;
         self.channels[usize::from(c)] = ChannelState::Seized;
         Some(c)

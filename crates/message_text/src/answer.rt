@@ -1,5 +1,7 @@
-ghost use Rattle.std.specs.Prelude.{◌≡◌, IfOk};
+ghost use Rattle.std.specs.Prelude.{◌≡◌, Some, Ok, IfOk, string_bytes};
+ghost use Rattle.reader.specs.Seen.{seen_record};
 ghost use Rattle.message_text.specs.Verdicts.{is_remark, verdict, verdict_on};
+ghost use Rattle.message_text.specs.Lines.{said, told, told_on};
 
 use crate::shown::MessageText;
 use hexadecimal::octets_in;
@@ -23,13 +25,16 @@ pub fn is_remark(line: &[u8]) -> bool
 }
 
 /// The line of a message.
-fn told_of(heap: Global, message: Message<Part<'_>>) -> Result<String, AllocError> {
+fn told_of(heap: Global, message: Message<Part<'_>>) -> Result<String, AllocError>
+    ensures its_text { IfOk result (λ text. Some (string_bytes text) ≡ told (Ok (seen_record message.entry))) }
+{
     format!(in heap; "= {}", MessageText { message })
 }
 
 /// What a line of hexadecimal octets gets.
 pub fn answer_to(heap: Global, line: &[u8]) -> Result<Answer, AllocError>
     ensures message_or_refused_as_it_reads { IfOk result (λ answer. verdict answer ≡ verdict_on line.now) }
+    ensures told_letter_by_letter { IfOk result (λ answer. said answer ≡ told_on line.now) }
 {
     let Some(octets) = octets_in(heap, line)? else {
         return Ok(Answer::NotHex);

@@ -17,23 +17,24 @@ is_digit x = (nat_le 48 x && nat_le x 57) || (x == 42 || x == 35)
 abbrev pub all_digits : List ℕ → Bool
 all_digits xs = list_all is_digit xs
 
--- Cause: two contents or more, the first two from 80 up; four bits of location, then seven bits of cause
+-- the cause element: its first two contents carry the top bit, whatever follows them; below it the first has the location in
+-- four bits, the second the cause in seven
 abbrev pub cause_of : List ℕ → Option Cause
 cause_of xs =
     if nat_le 2 (length xs) && (nat_le 128 (slice_index xs 0) && nat_le 128 (slice_index xs 1))
     then Some (record { value = slice_index xs 1 % 128; location = slice_index xs 0 % 16 }) else None
 
--- Channel: exactly three contents: A9 (exclusive) or A1 (preferred), 83, and 80 plus the channel from 1 on
+-- the channel element has three contents: how firmly it is meant (169 exclusive, 161 preferred), then 131, then the number, 1 or more, under the top bit
 abbrev pub channel_of : List ℕ → Option Channel
 channel_of xs =
     if length xs == 3 && ((slice_index xs 0 == 169 || slice_index xs 0 == 161) && (slice_index xs 1 == 131 && nat_le 129 (slice_index xs 2)))
     then Some (record { number = slice_index xs 2 % 128; exclusive = (slice_index xs 0 == 169) }) else None
 
--- Progress: exactly two contents from 80 up; the second's seven bits are the description
+-- the progress element has two contents that carry the top bit; what else the last one holds is the description
 abbrev pub progress_of : List ℕ → Option ℕ
 progress_of xs = if length xs == 2 && (nat_le 128 (slice_index xs 0) && nat_le 128 (slice_index xs 1)) then Some (slice_index xs 1 % 128) else None
 
--- Called number: one content from 80 up, then digits, perhaps none; they begin three octets behind the element's first
+-- the called number: behind one content with the top bit all are digits, if any; the first of them stands three octets behind the identifier
 abbrev pub digits_of : ℕ → List ℕ → Option DigitsPart
 digits_of place xs =
     if nat_le 1 (length xs) && (nat_le 128 (slice_index xs 0) && all_digits (drop 1 xs))

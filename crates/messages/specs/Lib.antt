@@ -5,3 +5,4 @@ pub mod Reading
 pub mod Writing
 pub mod Laws
 pub mod Written
+pub mod Shown

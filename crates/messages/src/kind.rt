@@ -1,5 +1,6 @@
-ghost use Rattle.std.specs.Prelude.{◌≡◌};
+ghost use Rattle.std.specs.Prelude.{◌≡◌, Some};
 ghost use Rattle.messages.specs.Types.{code_of, is_setup, Decodes};
+ghost use Rattle.messages.specs.Shown.{name_of, unknown_text};
 
 use std::error::Error;
 use std::fmt;
@@ -80,6 +81,8 @@ impl MessageType {
 
 /// The name that people write.
 impl fmt::Display for MessageType {
+    ghost output = { λ kind. Some (name_of kind) };
+
     fn fmt<W: fmt::Write>(&self, f: &mut fmt::Formatter<W>) -> fmt::Result {
         f.write_str(match self {
             MessageType::Alerting => "ALERTING",
@@ -98,8 +101,12 @@ impl fmt::Display for MessageType {
 }
 
 impl fmt::Display for UnknownCode {
+    ghost output = { λ code. Some (unknown_text code) };
+
+    #[tactic(auto, using(std::proofs::lemmas::Fmt::hex_byte))]
     fn fmt<W: fmt::Write>(&self, f: &mut fmt::Formatter<W>) -> fmt::Result {
-        write!(f, "no message type has the octet {:02X}", self.0)
+        let octet = self.0;
+        write!(f, "no message type has the octet {octet:02X}")
     }
 }
 

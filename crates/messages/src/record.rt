@@ -1,5 +1,6 @@
 ghost use Rattle.std.specs.Prelude.{◌≡◌};
 ghost use Rattle.messages.specs.Written.{without_place};
+ghost use Rattle.messages.specs.Shown.{wish_text};
 
 use crate::kind::MessageType;
 use refusals::Ground;
@@ -27,7 +28,9 @@ pub struct Channel {
 
 impl Channel {
     /// How firmly the channel is named, in a word.
-    pub(crate) fn wish(self) -> &'static str {
+    pub(crate) fn wish(self) -> &'static str
+        ensures exclusive_or_preferred { result.now ≡ wish_text self }
+    {
         if self.exclusive {
             "exclusive"
         } else {

@@ -15,7 +15,7 @@ const DESCENDING: [u8; 30] = [
 /// What a link does from the start.
 const PLAYS: [(&str, &[Step]); 5] = [
     (
-        "knows 1 to 15 and 17 to 31",
+        "knows every number up to 31 but 0 and 16",
         &[
             AllIdle(&ASCENDING),
             Idle(0, false),

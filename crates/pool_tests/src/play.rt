@@ -46,7 +46,7 @@ fn all_released<P: Pool>(pool: &mut P, channels: &[u8]) -> bool {
 
 fn goes_as_said<P: Pool>(pool: &mut P, step: Step) -> bool {
     match step {
-        Step::Largest(said) => P::largest_channel() == said,
+        Step::Largest(said) => P::LARGEST == said,
         Step::Idle(channel, said) => pool.is_idle(channel) == said,
         Step::Seize(channel, said) => pool.seize(channel) == said,
         Step::SeizeAny(said) => pool.seize_any() == said,

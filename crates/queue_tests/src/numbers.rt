@@ -9,17 +9,9 @@ enum Step {
     FreePlaces(usize),
     /// Whether the number found a place.
     Put(u8, bool),
-    /// Whether there was room for these.
-    AddFew(Few<u8>, bool),
+    /// Whether all of these found a place.
+    PutFew(Few<u8>, bool),
     Take(Option<u8>),
-}
-
-fn room_was_found(queue: &mut Queue<'_, u8>, few: Few<u8>) -> bool {
-    let room = queue.has_room(few.count());
-    if room {
-        queue.add_few(few);
-    }
-    room
 }
 
 fn goes_as_said(queue: &mut Queue<'_, u8>, step: Step) -> bool {
@@ -27,7 +19,7 @@ fn goes_as_said(queue: &mut Queue<'_, u8>, step: Step) -> bool {
         HasRoom(count, said) => queue.has_room(count) == said,
         FreePlaces(said) => queue.free_places() == said,
         Put(number, said) => queue.put(number).is_ok() == said,
-        AddFew(few, said) => room_was_found(queue, few) == said,
+        PutFew(few, said) => queue.put_few(few).is_ok() == said,
         Take(said) => queue.take() == said,
     }
 }
@@ -45,7 +37,7 @@ fn goes_otherwise(queue: &mut Queue<'_, u8>, steps: &[Step]) -> Option<usize> {
 /// Two at a time until fewer than two of three places are left.
 const EXHAUSTION: [Step; 7] = [
     HasRoom(3, true),
-    AddFew(Few::Two(1, 2), true),
+    PutFew(Few::Two(1, 2), true),
     HasRoom(2, false),
     FreePlaces(1),
     Take(Some(1)),

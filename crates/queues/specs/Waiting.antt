@@ -1,6 +1,8 @@
 -- What a queue stands for.
-use Rattle.std.specs.Prelude.{◌≡◌, ℕ, ◌-◌, ◌<◌, List, [], ◌∷◌, ◌++◌, length}
+use Rattle.std.specs.Prelude.{◌≡◌, ℕ, ◌-◌, ◌<◌, ◌≤◌, List, [], ◌∷◌, ◌++◌, length}
 use Rattle.queues.specs.Ring.{in_ring}
+use Rattle.queues.specs.Few.{few_items}
+use Rattle.queues.specs.declared.few.Few.{Few}
 use Rattle.queues.specs.declared.queue.Queue.{Queue}
 use Rattle.queues.specs.declared.queue.Refused.{Refused}
 use Rattle.refusals.specs.declared.Ground.TheVariants.{QueueFull}
@@ -25,6 +27,14 @@ module _ {M : Type 0} where
   -- all places were taken: the message comes back with the ground, and the queue is the very same
   abbrev pub HandedBack : Queue M → Queue M → M → Refused M → Type 0
   HandedBack before after m back = (free before ≡ 0) × (back.ground ≡ QueueFull) × (back.message ≡ m) × (after ≡ before)
+
+  -- there were as many places, and the messages wait behind the others in their order
+  abbrev pub FewAccepted : Queue M → Queue M → Few M → Type 0
+  FewAccepted before after few = (length (few_items few) ≤ free before) × (waiting after ≡ waiting before ++ few_items few)
+
+  -- there were fewer places: all of them come back with the ground, and the queue is the very same
+  abbrev pub FewHandedBack : Queue M → Queue M → Few M → Refused (Few M) → Type 0
+  FewHandedBack before after few back = (free before < length (few_items few)) × (back.ground ≡ QueueFull) × (back.message ≡ few) × (after ≡ before)
 
   -- the message was the oldest, and the others wait on
   abbrev pub OldestLeft : Queue M → Queue M → M → Type 0

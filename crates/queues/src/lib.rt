@@ -1,4 +1,4 @@
-// One queue for every kind of message, over places that its caller lends.
+//! One queue for every kind of message, over places that its caller lends.
 #![tactic(auto)]
 
 pub mod few;

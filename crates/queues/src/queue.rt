@@ -1,4 +1,4 @@
-// A queue over places that the caller lends, and no vector: a step has fixed memory and no heap. What it does is in `methods`.
+//! A queue over places that the caller lends, and no vector: a step has fixed memory and no heap. What it does is in `methods`.
 ghost use Rattle.std.specs.Prelude.{◌≡◌, ◌-◌, ◌<◌, ◌≤◌, length, Some, None, slice_index_or, slice_set};
 ghost use Rattle.queues.specs.Ring.{in_ring};
 
@@ -9,7 +9,7 @@ use std::fmt;
 pub mod methods;
 mod places;
 
-// The lent places. Stays apart from the queue's numbers: a struct with an invariant cannot lend a part of itself.
+/// The lent places. Stays apart from the queue's numbers: a struct with an invariant cannot lend a part of itself.
 #[derive(Drop)]
 pub struct Lane<'a, M> {
     places: &'a mut [Option<M>],
@@ -42,7 +42,7 @@ impl<'a, M> Lane<'a, M> {
     }
 }
 
-// Messages in the order in which they came. `len` of them wait, from place `first` on and round the end of the places.
+/// Messages in the order in which they came. `len` of them wait, from place `first` on and round the end of the places.
 #[derive(Drop)]
 pub struct Queue<'a, M> {
     lane: Lane<'a, M>,
@@ -53,7 +53,7 @@ pub struct Queue<'a, M> {
     ghost counted: { length (in_ring lane.places.now first len) ≡ len },
 }
 
-// A message that found no place, handed back with the ground.
+/// A message that found no place, handed back with the ground.
 #[derive(Clone, Copy, PartialEq, Eq, Debug, Drop)]
 pub struct Refused<M> {
     pub ground: Ground,
@@ -62,6 +62,10 @@ pub struct Refused<M> {
 
 // The ground alone: a message need not be printable.
 impl<M> fmt::Display for Refused<M> {
+    ghost use Rattle.refusals.specs.Grounds.{words_of};
+
+    ghost output = { λ refused. Some (words_of refused.ground) };
+
     fn fmt<W: fmt::Write>(&self, f: &mut fmt::Formatter<W>) -> fmt::Result {
         write!(f, "{}", self.ground)
     }

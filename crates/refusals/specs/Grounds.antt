@@ -1,5 +1,6 @@
 -- The number and the text of each ground of refusal.
-use Rattle.std.specs.Prelude.{ℕ, ◌≡◌, List, codes}
+use Rattle.std.specs.Prelude.{ℕ, List, [], ◌++◌, Some, None, Option, codes}
+use Rattle.std.specs.Fmt.{decimal}
 use Rattle.refusals.specs.declared.Ground.{Ground}
 use Rattle.refusals.specs.declared.Ground.TheVariants.{TooFewOctets, WrongDiscriminator, UnknownType, ElementPastEnd, BadElement, IncompleteSetup, BadReference, StatusOutOfRange, BufferTooShort, FieldOutOfRange, SettingOutOfRange, NoSuchCall, NotNow, TimerNotRunning, QueueFull, TransactionInUse, DialogueInUse, ReferenceInUse}
 
@@ -24,23 +25,32 @@ number_of TransactionInUse = 24
 number_of DialogueInUse = 25
 number_of ReferenceInUse = 26
 
--- what a text says where it names the ground
-abbrev pub Says : Ground → List ℕ → Type 0
-Says TooFewOctets text = text ≡ codes "fewer than five octets"
-Says WrongDiscriminator text = text ≡ codes "octets 0 and 1 are not 08 02"
-Says UnknownType text = text ≡ codes "the message type is unknown"
-Says ElementPastEnd text = text ≡ codes "an element runs past the end"
-Says BadElement text = text ≡ codes "an element breaks its layout"
-Says IncompleteSetup text = text ≡ codes "SETUP without channel or called number"
-Says BadReference text = text ≡ codes "call reference 0, or SETUP with flag 1"
-Says StatusOutOfRange text = text ≡ codes "the SIP status is not 100 to 699"
-Says BufferTooShort text = text ≡ codes "the buffer is too short"
-Says FieldOutOfRange text = text ≡ codes "a field to be written is out of its range"
-Says SettingOutOfRange text = text ≡ codes "a setting is out of its range"
-Says NoSuchCall text = text ≡ codes "no call matches"
-Says NotNow text = text ≡ codes "the call does not take this now"
-Says TimerNotRunning text = text ≡ codes "that timer is not running"
-Says QueueFull text = text ≡ codes "not enough free places in an outgoing queue"
-Says TransactionInUse text = text ≡ codes "a call with an unanswered INVITE has this transaction"
-Says DialogueInUse text = text ≡ codes "another call holds this dialogue"
-Says ReferenceInUse text = text ≡ codes "a call has this reference already"
+-- the words that stand for the ground wherever it is shown
+abbrev pub words_of : Ground → List ℕ
+words_of TooFewOctets = codes "fewer than five octets"
+words_of WrongDiscriminator = codes "octets 0 and 1 are not 08 02"
+words_of UnknownType = codes "the message type is unknown"
+words_of ElementPastEnd = codes "an element runs past the end"
+words_of BadElement = codes "an element breaks its layout"
+words_of IncompleteSetup = codes "SETUP without channel or called number"
+words_of BadReference = codes "call reference 0, or SETUP with flag 1"
+words_of StatusOutOfRange = codes "the SIP status is not 100 to 699"
+words_of BufferTooShort = codes "the buffer is too short"
+words_of FieldOutOfRange = codes "a field to be written is out of its range"
+words_of SettingOutOfRange = codes "a setting is out of its range"
+words_of NoSuchCall = codes "no call matches"
+words_of NotNow = codes "the call does not take this now"
+words_of TimerNotRunning = codes "that timer is not running"
+words_of QueueFull = codes "not enough free places in an outgoing queue"
+words_of TransactionInUse = codes "a call with an unanswered INVITE has this transaction"
+words_of DialogueInUse = codes "another call holds this dialogue"
+words_of ReferenceInUse = codes "a call has this reference already"
+
+-- the octet at which it was found, where there is one
+abbrev pub place_text : Option ℕ → List ℕ
+place_text None = []
+place_text (Some place) = codes " at " ++ decimal place
+
+-- a refusal as a line says it: the number, the place if there is one, and the words
+abbrev pub refusal_text : Ground → Option ℕ → List ℕ
+refusal_text why place = codes "refused " ++ (decimal (number_of why) ++ (place_text place ++ (codes ": " ++ words_of why)))

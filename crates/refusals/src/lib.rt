@@ -1,8 +1,8 @@
 // Every ground on which the product refuses something, with its number and a short text.
 #![tactic(auto)]
 
-ghost use Rattle.std.specs.Prelude.{◌≡◌};
-ghost use Rattle.refusals.specs.Grounds.{number_of, Says};
+ghost use Rattle.std.specs.Prelude.{◌≡◌, Some};
+ghost use Rattle.refusals.specs.Grounds.{number_of, words_of};
 
 use std::error::Error;
 use std::fmt;
@@ -60,7 +60,7 @@ impl Ground {
 
     // What the ground means, in a few words.
     pub fn text(self) -> &'static str
-        ensures text_of_the_ground { Says self result.now }
+        ensures text_of_the_ground { result.now ≡ words_of self }
     {
         match self {
             Ground::TooFewOctets => "fewer than five octets",
@@ -86,6 +86,8 @@ impl Ground {
 }
 
 impl fmt::Display for Ground {
+    ghost output = { λ why. Some (words_of why) };
+
     fn fmt<W: fmt::Write>(&self, f: &mut fmt::Formatter<W>) -> fmt::Result {
         f.write_str(self.text())
     }

@@ -1,10 +1,11 @@
-use calls::Answer;
-use gateway::Gateway;
+use calls::{Answer, SipMessage};
+use gateway::{Gateway, Outgoing};
 use messages::MessageType;
 use runs::{Event, NotPlayed, open_and_run};
 use std::alloc::{AllocError, Global};
 use std::test::Fail;
 use turn_pool::TurnPool;
+use worked_examples::joint_examples;
 
 /// RELEASE COMPLETE with cause 44 to the SETUP on channel 7.
 const UNAVAILABLE: [u8; 9] = [0x08, 0x02, 0x80, 0x07, 0x5a, 0x08, 0x02, 0x80, 0xac];
@@ -61,15 +62,8 @@ fn a_refused_channel_brings_setup_on_another(rt: HostRuntime) -> Result<(), Fail
     let mut exchange = [None; 4];
     let mut sip = [None; 4];
     let pool = TurnPool::new(&[7, 9])?;
-    let (gateway, answers) = open_and_run(
-        3,
-        1,
-        pool,
-        heap,
-        events.as_slice(),
-        &mut exchange,
-        &mut sip,
-    )?;
+    let mut queues = Outgoing::new(&mut exchange, &mut sip);
+    let (gateway, answers) = open_and_run(3, 1, pool, heap, events.as_slice(), &mut queues)?;
     assert_eq!(rt; answers.len(), 6);
     assert!(rt;
         channels(answers[0]) == Some((Some(7), None)),
@@ -92,16 +86,42 @@ fn a_refused_channel_brings_setup_on_another(rt: HostRuntime) -> Result<(), Fail
 }
 
 #[test]
+fn the_worked_example_is_played(rt: HostRuntime) {
+    let tried = joint_examples();
+    assert!(rt; channels(tried.answers[0]) == Some((Some(7), None)));
+    assert!(rt; channels(tried.answers[1]) == Some((Some(9), Some(7))));
+    assert!(rt; taken(tried.answers[3]) == Some((MessageType::Setup, Some(9))));
+    assert_eq!(rt; calls_on(&tried.gateway, 9), 1);
+    assert_eq!(rt; calls_on(&tried.gateway, 7), 0);
+}
+
+#[test]
 fn settings_out_of_range_open_nothing(rt: HostRuntime) -> Result<(), Fail> {
     let heap = rt.alloc();
     let mut exchange = [None; 2];
     let mut sip = [None; 2];
     for (full, first) in [(0, 1), (21, 1), (3, 0)] {
         let pool = TurnPool::new(&[7])?;
-        match open_and_run(full, first, pool, heap, &[], &mut exchange, &mut sip) {
+        let mut queues = Outgoing::new(&mut exchange, &mut sip);
+        match open_and_run(full, first, pool, heap, &[], &mut queues) {
             Err(NotPlayed::Refused(ground)) => assert_eq!(rt; ground.number(), 11),
             _ => return Err(Fail::new("opened")),
         }
     }
+    Ok(())
+}
+
+#[test]
+fn queues_in_use_are_not_played(rt: HostRuntime) -> Result<(), Fail> {
+    let heap = rt.alloc();
+    let mut exchange = [None; 2];
+    let mut sip = [None; 2];
+    let mut queues = Outgoing::new(&mut exchange, &mut sip);
+    let waits = SipMessage::Bye { dialogue: 1 };
+    let _ = queues.sip.put(waits);
+    let pool = TurnPool::new(&[7])?;
+    let played = open_and_run(3, 1, pool, heap, &[], &mut queues);
+    assert!(rt; played.is_err_and(|why| why == NotPlayed::QueuesInUse));
+    assert!(rt; queues.sip.take() == Some(waits), "it waits on");
     Ok(())
 }

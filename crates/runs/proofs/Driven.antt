@@ -4,6 +4,8 @@ use Rattle.std.proofs.lemmas.List.{take_more, map-append}
 use Rattle.calls.specs.declared.answers.Answer.{Answer}
 use Rattle.calls.specs.Rules as rules
 use Rattle.calls.specs.Rules.{State, Stepped, Stepping, next_step}
+use Rattle.pools.specs.declared.pool.Pool.{Ghosts}
+use Rattle.gateway.specs.PoolMoves.{PoolMoved, wish_of}
 use Rattle.events.specs.declared.event.Event.{Event}
 use Rattle.events.specs.Events.{event_of}
 
@@ -18,3 +20,7 @@ driven_more entry st st' evs i e before after a h is q r s =
 -- the same step of the same event
 pub as_event : {st st' : State} {a : Answer} (e e' : rules.Event) → e ≡ e' → Stepped st e' a st' → Stepped st e a st'
 as_event {st} {st'} {a} e e' q s = subst (λ (x : rules.Event). Stepped st x a st') (sym q) s
+
+-- the same moves of the pool for the same event
+pub as_moved : {P : Type 0} (kind : Ghosts P) {a : Answer} {before after : P} (e e' : rules.Event) → e ≡ e' → PoolMoved kind (wish_of e') a before after → PoolMoved kind (wish_of e) a before after
+as_moved kind {a} {before} {after} e e' q m = subst (λ (x : rules.Event). PoolMoved kind (wish_of x) a before after) (sym q) m

@@ -1,8 +1,10 @@
-ghost use Rattle.std.specs.Prelude.{◌≡◌, ◌+◌, ◌≤◌, [], map, length, vec_len, vec_capacity, MatchResult};
+ghost use Rattle.std.specs.Prelude.{◌≡◌, ◌+◌, ◌≤◌, [], ◌∷◌, map, length, vec_len, vec_capacity, MatchResult};
 ghost use Rattle.calls.specs.Rules.{Stepped, Stepping};
 ghost use Rattle.calls.specs.Laws.{RunsOn};
 ghost use Rattle.events.specs.Events.{event_of};
+ghost use Rattle.gateway.specs.PoolMoves.{MovesPool};
 ghost use Rattle.gateway.specs.Stands.{state_of};
+ghost use Rattle.runs.specs.Plays.{OnRefused};
 
 use calls::{Answer, Invite};
 use events::Event;
@@ -10,9 +12,22 @@ use gateway::{Gateway, Outgoing};
 use pools::Pool;
 use std::alloc::{AllocError, Global};
 
-/// One event.
-fn step<P: Pool>(gateway: &mut Gateway<P>, event: &Event, queues: &mut Outgoing<'_>) -> Answer
+/// One event, which is lent: no memory is asked for, so that every event has its answer. A refusal leaves gateway and queues
+/// the very same.
+pub fn step<P: Pool>(gateway: &mut Gateway<P>, event: &Event, queues: &mut Outgoing<'_>) -> Answer
+    ensures refusal_leaves_all { OnRefused result ((gateway.new ≡ gateway.old) × (queues.new ≡ queues.old)) }
     ensures steps_by_the_rules { Stepped (state_of P.Pool.state gateway.old queues.old) (event_of event.now) result (state_of P.Pool.state gateway.new queues.new) }
+    ensures moves_the_pool_as_reported { MovesPool P.Pool gateway.old (event_of event.now) result gateway.new }
+    ensures every_history_goes_on_and_the_laws_hold { RunsOn (state_of P.Pool.state gateway.old queues.old) (event_of event.now ∷ []) (result ∷ []) (state_of P.Pool.state gateway.new queues.new) }
+{
+    step_of(gateway, event, queues)
+}
+
+/// The call of the gateway that is for this kind of event.
+fn step_of<P: Pool>(gateway: &mut Gateway<P>, event: &Event, queues: &mut Outgoing<'_>) -> Answer
+    ensures refusal_leaves_all { OnRefused result ((gateway.new ≡ gateway.old) × (queues.new ≡ queues.old)) }
+    ensures steps_by_the_rules { Stepped (state_of P.Pool.state gateway.old queues.old) (event_of event.now) result (state_of P.Pool.state gateway.new queues.new) }
+    ensures moves_the_pool_as_reported { MovesPool P.Pool gateway.old (event_of event.now) result gateway.new }
 {
     match event {
         Event::Exchange { octets } => { Answer::Step(gateway.message(octets.as_slice(), queues)) }

@@ -4,6 +4,6 @@
 mod drive;
 mod play;
 
-pub use drive::run;
+pub use drive::{run, step};
 pub use events::Event;
 pub use play::{NotPlayed, open_and_run};

@@ -1,6 +1,13 @@
 //! The lines of a script, each with its number and what it is.
-use crate::command::{BadLine, Command, Opening, parse};
+ghost use Rattle.std.specs.Prelude.{◌≡◌, IfOk, map};
+ghost use Rattle.std.specs.Option.{option_map};
+ghost use Rattle.script_commands.specs.Commands.{asked_by};
+ghost use Rattle.script_commands.specs.Openings.{settings_of};
+ghost use Rattle.script_lines.specs.Meanings.{asked_by_meaning, meant_by, read, read_at, lines_in, commanded, opened};
+
 use message_text::is_remark;
+use script_commands::{Command, Opening, parse};
+use script_words::BadLine;
 use std::alloc::{AllocError, Global};
 use std::io;
 
@@ -21,19 +28,22 @@ pub struct Line<'a> {
     meaning: Meaning,
 }
 
-fn meaning_of(heap: Global, text: &str) -> Result<Meaning, AllocError> {
+fn meaning_of(heap: Global, text: &str) -> Result<Meaning, AllocError>
+    ensures remark_or_as_it_asks { IfOk result (λ meaning. asked_by_meaning meaning ≡ meant_by text.now) }
+{
     if is_remark(text.as_bytes()) {
         return Ok(Meaning::Remark);
     }
-    match parse(heap, text) {
-        Ok(command) => Ok(Meaning::Command(command)),
-        Err(BadLine::NoMemory) => Err(AllocError),
-        Err(why) => Ok(Meaning::Bad(why)),
-    }
+    Ok(match parse(heap, text)? {
+        Ok(command) => Meaning::Command(command),
+        Err(why) => Meaning::Bad(why),
+    })
 }
 
 impl<'a> Line<'a> {
-    fn new(heap: Global, number: usize, text: &'a str) -> Result<Line<'a>, AllocError> {
+    fn new(heap: Global, number: usize, text: &'a str) -> Result<Line<'a>, AllocError>
+        ensures its_number_its_text_and_what_it_asks_for { IfOk result (λ line. read line ≡ read_at number text.now) }
+    {
         Ok(Line {
             number,
             text,
@@ -42,7 +52,9 @@ impl<'a> Line<'a> {
     }
 
     /// The opening, if the line is one.
-    pub fn opening(&self) -> Option<&Opening> {
+    pub fn opening(&self) -> Option<&Opening>
+        ensures opening_that_it_asks_for { option_map (λ opening. settings_of opening.now) result ≡ opened (commanded (read self.now).asked) }
+    {
         match &self.meaning {
             Meaning::Command(Command::Open(opening)) => Some(opening),
             _ => None,
@@ -58,7 +70,9 @@ impl<'a> Line<'a> {
     }
 
     /// The command, if the line has one; a bad line is answered here.
-    pub fn command(&self, rt: &impl Print) -> io::Result<Option<&Command>> {
+    pub fn command(&self, rt: &impl Print) -> io::Result<Option<&Command>>
+        ensures command_that_it_asks_for { IfOk result (λ command. option_map (λ c. asked_by c.now) command ≡ commanded (read self.now).asked) }
+    {
         match &self.meaning {
             Meaning::Remark => Ok(None),
             Meaning::Command(command) => Ok(Some(command)),
@@ -70,8 +84,10 @@ impl<'a> Line<'a> {
     }
 }
 
-/// The lines of a text, each with its number.
-pub fn lines_of(heap: Global, text: &str) -> Result<Vec<Line<'_>>, AllocError> {
+/// The lines of a text, each with its number. Refused: want of memory alone.
+pub fn lines_of(heap: Global, text: &str) -> Result<Vec<Line<'_>>, AllocError>
+    ensures each_line_in_its_order { IfOk result (λ all. map read all.items ≡ lines_in text.now) }
+{
     let mut lines = Vec::new(heap);
     for (i, line) in text.lines().enumerate() {
         lines.push(Line::new(heap, i.saturating_add(1), line)?)?;

@@ -1,4 +1,7 @@
 //! A whole script: its lines, in sections that each begin with an opening.
+ghost use Rattle.gateway.specs.Stands.{Begins};
+ghost use Rattle.scripts.specs.Kept.{AllIdle};
+
 use crate::play::Play;
 use gateway::{Gateway, Outgoing};
 use link_pool::LinkPool;
@@ -13,13 +16,15 @@ fn play_opened<P: Pool + Drop>(
     gateway: Gateway<P>,
     opening: &Opening,
     lines: &[Line<'_>],
-) -> io::Result<()> {
+) -> io::Result<()>
+    requires at_its_opening { Begins P.Pool.state gateway }
+    requires all_channels_are_idle { AllIdle (P.Pool.state gateway.trunk.pool) }
+{
     let mut exchange_places = vec![in rt.alloc(); None; opening.exchange_places]?;
     let mut sip_places = vec![in rt.alloc(); None; opening.sip_places]?;
     let queues = Outgoing::new(exchange_places.as_mut_slice(), sip_places.as_mut_slice());
     println!(rt; "= {opening}")?;
-    let mut play = Play::new(rt.alloc(), gateway, queues);
-    play.play(rt, lines)?;
+    let play = Play::new(rt.alloc(), gateway, queues).play(rt, lines)?;
     play.close(rt)
 }
 
@@ -29,7 +34,9 @@ fn play_over<P: Pool + Drop>(
     pool: P,
     opening: &Opening,
     lines: &[Line<'_>],
-) -> io::Result<bool> {
+) -> io::Result<bool>
+    requires all_channels_are_idle { AllIdle (P.Pool.state pool) }
+{
     match Gateway::open(opening.length, opening.first, pool) {
         Ok(gateway) => {
             play_opened(rt, gateway, opening, lines)?;

@@ -31,10 +31,6 @@ removed_without (x ∷ xs) (suc i) c h e before =
     let head : x ≡ c → ⊥ = before 0 (omega arith) in
     grind (arith, common_steps, removed_without xs i c (le_of_suc-le-suc h) e (λ j l. before (suc j) (omega (arith, l))))
 
-pub without_none : (xs : List ℕ) (c : ℕ) → times c xs ≡ 0 → xs ≡ without c xs
-without_none [] c none = refl
-without_none (x ∷ xs) c none = grind (arith, common_steps, without_none xs c)
-
 pub times_without : (k c : ℕ) (xs : List ℕ) → 0 < times c xs → times k (without c xs) + once (eqb c k) ≡ times k xs
 times_without k c [] some = absurd (not-suc-le-zero some)
 times_without k c (x ∷ xs) some = grind (arith, common_steps, times_without k c xs)

@@ -1,4 +1,5 @@
--- Which channels a pool may have: 1 to 64 different numbers from 1 to 127.
+-- Which lists of channels make a pool: not empty, at most 64 long, every number one that an octet's low seven bits can say and
+-- not 0, none of them twice.
 use Rattle.std.specs.Prelude.{◌≡◌, ℕ, ◌+◌, ◌≤◌, Bool, true, false, if◌then◌else◌, List, length, ◌==◌, nat_lt}
 use Rattle.turn_pool.specs.Lists.{once, times}
 

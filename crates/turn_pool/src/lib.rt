@@ -5,16 +5,14 @@ mod listing;
 mod moves;
 mod turns;
 
-ghost use Rattle.std.specs.Prelude.{◌≡◌, ℕ, [], ◌∷◌, ◌++◌, IfOk, if◌then◌else◌, MatchResult};
+ghost use Rattle.std.specs.Prelude.{◌≡◌, [], IfOk, MatchResult};
 ghost use Rattle.refusals.specs.declared.Ground.TheVariants.{SettingOutOfRange};
-ghost use Rattle.pools.specs.States.{idle, seized, after_seize, after_release, after_any, AnyWasIdle};
-ghost use Rattle.turn_pool.specs.Lists.{first, rest, without};
 ghost use Rattle.turn_pool.specs.Listing.{Fits};
-ghost use Rattle.turn_pool.specs.Turns.{idle_order, seized_ones, states};
+ghost use Rattle.turn_pool.specs.Turns.{idle_order, seized_ones, states, Seizes, SeizesAny, Releases};
 ghost use Rattle.std.proofs.Common.{rules, arith};
 
 use crate::listing::is_turn_list;
-use crate::moves::move_channel;
+use crate::moves::{move_first, place_of};
 use arrayvec::ArrayVec;
 use pools::Pool;
 use refusals::Ground;
@@ -41,49 +39,46 @@ impl TurnPool {
 impl Pool for TurnPool {
     const LARGEST: u8 = 127;
 
+    ghost LARGEST = { 127 };
+
     ghost state = { states };
 
-    ghost top = { 127 };
+    ghost Seizes = { Seizes };
+
+    ghost SeizesAny = { SeizesAny };
+
+    ghost Releases = { Releases };
 
     ghost zero_unknown = { Prim.search rules };
 
-    ghost known_within_top = { Prim.search rules };
+    ghost known_within_largest = { Prim.search rules };
 
-    ghost top_within_127 = { Prim.search rules };
-
-    fn largest_channel() -> u8 {
-        Self::LARGEST
-    }
+    ghost largest_within_127 = { Prim.search rules };
 
     #[tactic(auto, using(crate::proofs::Counts::times_any))]
     fn is_idle(&self, c: u8) -> bool {
         self.idle.contains(&c)
     }
 
-    fn seize(&mut self, c: u8) -> bool
-        ensures granted_exactly_if_idle { result ≡ idle (states self.old c) }
-        ensures grant_seizes_it_alone { (k : ℕ) → states self.new k ≡ after_seize result c (states self.old) k }
-        ensures the_others_wait_on_in_order { idle_order self.new ≡ without c (idle_order self.old) }
-    {
-        move_channel(&mut self.idle, &mut self.seized, c)
+    fn seize(&mut self, c: u8) -> bool {
+        let Some(place) = place_of(&self.idle, c) else {
+            return false;
+        };
+        move_first(&mut self.idle, &mut self.seized, place, c);
+        true
     }
 
-    fn seize_any(&mut self) -> Option<u8>
-        ensures granted_exactly_if_one_is_idle { AnyWasIdle result (states self.old) }
-        ensures grant_seizes_it_alone { (k : ℕ) → states self.new k ≡ after_any result (states self.old) k }
-        ensures takes_the_longest_idle { result ≡ first (idle_order self.old) }
-        ensures the_others_wait_on_in_order { idle_order self.new ≡ rest (idle_order self.old) }
-    {
+    fn seize_any(&mut self) -> Option<u8> {
         let c = *self.idle.first()?;
         self.seize(c);
         Some(c)
     }
 
-    fn release(&mut self, c: u8) -> bool
-        ensures granted_exactly_if_seized { result ≡ seized (states self.old c) }
-        ensures grant_frees_it_alone { (k : ℕ) → states self.new k ≡ after_release result c (states self.old) k }
-        ensures the_released_waits_last { idle_order self.new ≡ (if result then idle_order self.old ++ c ∷ [] else idle_order self.old) }
-    {
-        move_channel(&mut self.seized, &mut self.idle, c)
+    fn release(&mut self, c: u8) -> bool {
+        let Some(place) = place_of(&self.seized, c) else {
+            return false;
+        };
+        move_first(&mut self.seized, &mut self.idle, place, c);
+        true
     }
 }

@@ -50,7 +50,12 @@ impl Guard<'_> {
 
 /// Writes an element at the front of `bytes`: its identifier, the length octet, `first` and `rest`. Where they do not all find
 /// a place, those that do are put and the rest is refused; the length octet is the number of octets put in any case.
-pub fn write_element(bytes: &mut [u8], id: u8, first: u8, rest: &[u8]) -> Result<usize, Ground>
+pub(crate) fn write_element(
+    bytes: &mut [u8],
+    id: u8,
+    first: u8,
+    rest: &[u8],
+) -> Result<usize, Ground>
     ensures length_octet_counts_what_was_put { bytes.new ≡ element_buffer bytes.old id (first ∷ rest.now) }
     ensures size_or_refused { result ≡ element_answer bytes.old (first ∷ rest.now) }
 {
@@ -64,4 +69,24 @@ pub fn write_element(bytes: &mut [u8], id: u8, first: u8, rest: &[u8]) -> Result
         element.push(*octet)?;
     }
     Ok(2 + element.put)
+}
+
+#[cfg(test)]
+mod tests {
+    use super::write_element;
+    use std::test::Fail;
+
+    /// What stands in the octets before the element is written.
+    const OLD: u8 = 0xee;
+
+    #[test]
+    fn an_element_without_room_counts_what_it_put(rt: HostRuntime) -> Result<(), Fail> {
+        let mut bytes = [OLD; 4];
+        let refused = write_element(&mut bytes, 0x70, 0x80, b"123").map_err(
+            |ground| ground.number(),
+        );
+        assert_eq!(rt; refused, Err(9));
+        assert_eq!(rt; &bytes[0..4], b"\x70\x02\x801".as_slice());
+        Ok(())
+    }
 }

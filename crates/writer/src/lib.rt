@@ -7,5 +7,4 @@ mod parts;
 mod ranges;
 mod sizes;
 
-pub use element::write_element;
 pub use message::write;

@@ -10,7 +10,7 @@ use crate::sizes::size_of;
 use messages::Message;
 use refusals::Ground;
 
-/// Writes a message that is known to fit: each element is lent the buffer behind the octets already written.
+/// Writes a message that is known to fit: each element in its turn gets what is left of the buffer.
 fn put_message(buffer: &mut [u8], message: Message<&[u8]>) -> usize
     requires in_range { is_writable (values message) ≡ true }
     requires room { sizes (values message) ≤ length buffer.old }

@@ -18,7 +18,7 @@ fn put_element(part: &mut [u8], id: u8, first: u8, rest: &[u8]) -> usize
 }
 
 /// The five octets with which every message begins.
-pub fn put_header(buffer: &mut [u8], reference: CallReference, kind: MessageType)
+pub(crate) fn put_header(buffer: &mut [u8], reference: CallReference, kind: MessageType)
     requires room { 5 ≤ length buffer.old }
     requires number { reference.number ≤ 32767 }
     ensures after { buffer.new ≡ head_octets reference kind ++ drop 5 buffer.old }
@@ -32,7 +32,7 @@ pub fn put_header(buffer: &mut [u8], reference: CallReference, kind: MessageType
     buffer[4] = u8::from(kind);
 }
 
-pub fn put_complete(part: &mut [u8], complete: bool) -> usize
+pub(crate) fn put_complete(part: &mut [u8], complete: bool) -> usize
     requires room { length (complete_octets complete) ≤ length part.old }
     ensures after { part.new ≡ complete_octets complete ++ drop result part.old }
     ensures size { result ≡ length (complete_octets complete) }
@@ -44,7 +44,7 @@ pub fn put_complete(part: &mut [u8], complete: bool) -> usize
     1
 }
 
-pub fn put_bearer(part: &mut [u8], kind: MessageType) -> usize
+pub(crate) fn put_bearer(part: &mut [u8], kind: MessageType) -> usize
     requires room { length (bearer_octets kind) ≤ length part.old }
     ensures after { part.new ≡ bearer_octets kind ++ drop result part.old }
     ensures size { result ≡ length (bearer_octets kind) }
@@ -55,7 +55,7 @@ pub fn put_bearer(part: &mut [u8], kind: MessageType) -> usize
     put_element(part, 0x04, 0x80, &[0x90, 0xa3])
 }
 
-pub fn put_cause(part: &mut [u8], cause: Option<Cause>) -> usize
+pub(crate) fn put_cause(part: &mut [u8], cause: Option<Cause>) -> usize
     requires room { length (cause_octets cause) ≤ length part.old }
     requires range { cause_fits cause ≡ true }
     ensures after { part.new ≡ cause_octets cause ++ drop result part.old }
@@ -67,7 +67,7 @@ pub fn put_cause(part: &mut [u8], cause: Option<Cause>) -> usize
     put_element(part, 0x08, 0x80 + cause.location, &[0x80 + cause.value])
 }
 
-pub fn put_channel(part: &mut [u8], channel: Option<Channel>) -> usize
+pub(crate) fn put_channel(part: &mut [u8], channel: Option<Channel>) -> usize
     requires room { length (channel_octets channel) ≤ length part.old }
     requires range { channel_fits channel ≡ true }
     ensures after { part.new ≡ channel_octets channel ++ drop result part.old }
@@ -80,7 +80,7 @@ pub fn put_channel(part: &mut [u8], channel: Option<Channel>) -> usize
     put_element(part, 0x18, wish, &[0x83, 0x80 + channel.number])
 }
 
-pub fn put_progress(part: &mut [u8], progress: Option<u8>) -> usize
+pub(crate) fn put_progress(part: &mut [u8], progress: Option<u8>) -> usize
     requires room { length (progress_octets progress) ≤ length part.old }
     requires range { progress_fits progress ≡ true }
     ensures after { part.new ≡ progress_octets progress ++ drop result part.old }
@@ -92,7 +92,7 @@ pub fn put_progress(part: &mut [u8], progress: Option<u8>) -> usize
     put_element(part, 0x1e, 0x81, &[0x80 + description])
 }
 
-pub fn put_digits(part: &mut [u8], digits: Option<&[u8]>) -> usize
+pub(crate) fn put_digits(part: &mut [u8], digits: Option<&[u8]>) -> usize
     requires room { length (digits_octets (values_of digits)) ≤ length part.old }
     requires range { digits_fit (values_of digits) ≡ true }
     ensures after { part.new ≡ digits_octets (values_of digits.entry) ++ drop result part.old }

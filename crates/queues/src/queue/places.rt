@@ -1,4 +1,4 @@
-// Which place of a ring is next.
+//! Which place of a ring is next.
 ghost use Rattle.std.specs.Prelude.{◌≡◌, ◌<◌, ◌≤◌};
 ghost use Rattle.queues.specs.Ring.{behind, place_after};
 

@@ -1,33 +1,12 @@
-use Rattle.std.proofs.Common.{sym, ap, ◌∙◌}
-use Rattle.calls.specs.Rules as rules
+-- A run of one step.
+use Rattle.std.proofs.Common.{[], ◌∷◌}
+use Rattle.calls.specs.Rules.{no_step, next_step}
+use Rattle.calls.proofs.Histories.{runs_compose}
 use Rattle.events.specs.Events.{event_of}
-use Rattle.runs.proofs.Driven.{as_event}
 use Rattle.runs.proofs.drive.step.Goals as goal
 
-pub returns-in-Exchange : goal.returns-in-Exchange
-returns-in-Exchange g c = record { steps_by_the_rules = as_event _ _ (ap event_of c.in-Exchange.is ∙ sym (ap rules.Exchange c.as_slice.ensures.value)) c.message.ensures.steps_by_the_rules }
-
-pub returns-in-Invite : goal.returns-in-Invite
-returns-in-Invite g c =
-    record { steps_by_the_rules = as_event _ _ (ap event_of c.in-Invite.is ∙ sym (ap (rules.Invite c.in-Invite.transaction c.in-Invite.dialogue) c.as_slice-in-Invite.ensures.value)) c.invite.ensures.steps_by_the_rules }
-
-pub returns-in-Cancel : goal.returns-in-Cancel
-returns-in-Cancel g c = record { steps_by_the_rules = as_event _ _ (ap event_of c.in-Cancel.is) c.cancel.ensures.steps_by_the_rules }
-
-pub returns-in-Bye : goal.returns-in-Bye
-returns-in-Bye g c = record { steps_by_the_rules = as_event _ _ (ap event_of c.in-Bye.is) c.bye.ensures.steps_by_the_rules }
-
-pub returns-in-Response : goal.returns-in-Response
-returns-in-Response g c = record { steps_by_the_rules = as_event _ _ (ap event_of c.in-Response.is) c.response.ensures.steps_by_the_rules }
-
-pub returns-in-Expiry : goal.returns-in-Expiry
-returns-in-Expiry g c = record { steps_by_the_rules = as_event _ _ (ap event_of c.in-Expiry.is) c.expiry.ensures.steps_by_the_rules }
-
-pub returns-in-CancelExpiry : goal.returns-in-CancelExpiry
-returns-in-CancelExpiry g c = record { steps_by_the_rules = as_event _ _ (ap event_of c.in-CancelExpiry.is) c.cancel_expiry.ensures.steps_by_the_rules }
-
-pub returns-in-TakeExchange : goal.returns-in-TakeExchange
-returns-in-TakeExchange g c = record { steps_by_the_rules = as_event _ _ (ap event_of c.in-TakeExchange.is) c.take_exchange.ensures.steps_by_the_rules }
-
-pub returns-in-TakeSip : goal.returns-in-TakeSip
-returns-in-TakeSip g c = record { steps_by_the_rules = as_event _ _ (ap event_of c.in-TakeSip.is) c.take_sip.ensures.steps_by_the_rules }
+pub returns-clause-every_history_goes_on_and_the_laws_hold : goal.returns-clause-every_history_goes_on_and_the_laws_hold
+returns-clause-every_history_goes_on_and_the_laws_hold g c =
+    let event = event_of c.args.event.now in
+    let answer = c.step_of.result in
+    runs_compose _ (event ∷ []) (answer ∷ []) _ (next_step event answer no_step c.step_of.ensures.steps_by_the_rules)

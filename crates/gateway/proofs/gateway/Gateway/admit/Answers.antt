@@ -8,7 +8,7 @@ pub returns-in_default-clause-by_the_order_of_the_rule : goal.returns-in_default
 returns-in_default-clause-by_the_order_of_the_rule g c =
     λ queues.
     let st = state_of g.P.Pool.state c.args.self.now queues in
-    let b = bounded g.P.Pool.state g.P.Pool.top g.met.P.Pool.known_within_top g.met.P.Pool.top_within_127 c.args.self.now.trunk.pool in
+    let b = bounded g.P.Pool.state g.P.Pool.LARGEST g.met.P.Pool.known_within_largest g.met.P.Pool.largest_within_127 c.args.self.now.trunk.pool in
     let m = seen_record c.args.message in
     let w = fair_choice st b in
     record { choice = w.0; fair = w.1; by_the_rule = cond-true (misdialled m) _ _ c.in_default.ensures.as_it_came_unless_misdialled; no_channel_seized = λ k. refl }
@@ -17,7 +17,7 @@ pub returns-in_default-free-clause-by_the_order_of_the_rule : goal.returns-in_de
 returns-in_default-free-clause-by_the_order_of_the_rule g c =
     λ queues.
     let st = state_of g.P.Pool.state c.args.self.now queues in
-    let b = bounded g.P.Pool.state g.P.Pool.top g.met.P.Pool.known_within_top g.met.P.Pool.top_within_127 c.args.self.now.trunk.pool in
+    let b = bounded g.P.Pool.state g.P.Pool.LARGEST g.met.P.Pool.known_within_largest g.met.P.Pool.largest_within_127 c.args.self.now.trunk.pool in
     let m = seen_record c.args.message in
     let p = fair_pick st.pool b in
     record {
@@ -31,7 +31,7 @@ pub returns-in_default-next-clause-by_the_order_of_the_rule : goal.returns-in_de
 returns-in_default-next-clause-by_the_order_of_the_rule g c =
     λ queues.
     let st = state_of g.P.Pool.state c.args.self.now queues in
-    let b = bounded g.P.Pool.state g.P.Pool.top g.met.P.Pool.known_within_top g.met.P.Pool.top_within_127 c.args.self.now.trunk.pool in
+    let b = bounded g.P.Pool.state g.P.Pool.LARGEST g.met.P.Pool.known_within_largest g.met.P.Pool.largest_within_127 c.args.self.now.trunk.pool in
     let m = seen_record c.args.message in
     let p = fair_pick st.pool b in
     let i = c.in-Some-free.place in
@@ -46,7 +46,7 @@ pub returns-in_default-seize_for-clause-by_the_order_of_the_rule : goal.returns-
 returns-in_default-seize_for-clause-by_the_order_of_the_rule g c =
     λ queues.
     let st = state_of g.P.Pool.state c.args.self.now queues in
-    let b = bounded g.P.Pool.state g.P.Pool.top g.met.P.Pool.known_within_top g.met.P.Pool.top_within_127 c.args.self.now.trunk.pool in
+    let b = bounded g.P.Pool.state g.P.Pool.LARGEST g.met.P.Pool.known_within_largest g.met.P.Pool.largest_within_127 c.args.self.now.trunk.pool in
     let m = seen_record c.args.message in
     let i = c.in-Some-free.place in
     let n = c.in-Some-next.number in

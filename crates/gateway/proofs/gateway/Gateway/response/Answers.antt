@@ -15,6 +15,6 @@ carry_out-requires g c =
 pub returns-then-not-is_status-clause-steps_by_the_rules : goal.returns-then-not-is_status-clause-steps_by_the_rules
 returns-then-not-is_status-clause-steps_by_the_rules g c =
     let st = state_of g.P.Pool.state c.args.self.now c.args.queues.now in
-    let b = bounded g.P.Pool.state g.P.Pool.top g.met.P.Pool.known_within_top g.met.P.Pool.top_within_127 c.args.self.now.trunk.pool in
+    let b = bounded g.P.Pool.state g.P.Pool.LARGEST g.met.P.Pool.known_within_largest g.met.P.Pool.largest_within_127 c.args.self.now.trunk.pool in
     let o = on_response st.table c.args.response.number c.args.response.status c.args.response.dialogue c.args.response.media in
     plainly st _ b (refuse Ground.StatusOutOfRange) (λ ch. cond-false (is_status c.args.response.status) (roomed st o) (refuse Ground.StatusOutOfRange) (sym c.if-not-is_status.ensures.from_100_to_699)) (ap (λ (x : Refused). Answer.Step (Err x)) c.from.ensures) refl

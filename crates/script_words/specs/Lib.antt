@@ -1,0 +1,5 @@
+pub mod Channels
+pub mod Numbers
+pub mod Reasons
+pub mod Switches
+pub mod Words
