@@ -1,6 +1,6 @@
 ghost use Rattle.std.specs.Prelude.{◌≡◌, length, replicate, Some, None, MatchBool, MatchResult, is_ok, slice_index_or, slice_set};
 ghost use Rattle.calls.specs.Rules.{seek, FreePlace};
-ghost use Rattle.call_table.specs.Keys.{keyed, Within};
+ghost use Rattle.call_table.specs.Keys.{keyed, hits, found_at, Within};
 ghost use Rattle.call_table.specs.Tokens.{token_of};
 ghost use Rattle.call_table.specs.Records.{holding, held, is_holding, admits, answered, after_entering, Enters, MayChange, left, after_changing};
 
@@ -48,6 +48,13 @@ fn left(before: Option<Call>, after: Option<Call>, token: Option<Token>) -> Opti
     holding(before).map(|channel| Token { channel })
 }
 
+// Is it a place with a call that the key looks for?
+fn is_hit(key: Key, slot: &Option<Call>) -> bool
+    ensures yes_exactly_if_its_call_matches { result ≡ hits (keyed key) slot.now }
+{
+    slot.is_some_and(|call| is_keyed(key, call))
+}
+
 /// 64 places, each with at most one call. A call holds its channel only by the token that was entered with it.
 // Stays an array: 64 places are a rule, and a step uses no heap.
 #[derive(Drop)]
@@ -64,15 +71,20 @@ impl Table {
         Table { places: [None; 64] }
     }
 
+    // The place of the first call that the key looks for: the call itself is copied once, when it is found.
+    fn place_of(&self, key: Key) -> Option<usize>
+        ensures of_the_first_that_matches { found_at self.now.places result ≡ seek (keyed key) self.now.places }
+    {
+        self.places.iter().position(|slot| is_hit(key, slot))
+    }
+
     /// The first call that the key looks for.
     pub fn find(&self, key: Key) -> Option<Found>
         ensures the_first_that_matches_or_none { result ≡ seek (keyed key) self.now.places }
         ensures stands_at_its_place { Within result self.now.places }
     {
-        self.places.iter().enumerate().find_map(|(place, slot)| {
-            let call = (*slot)?;
-            is_keyed(key, call).then_some(Found { place, call })
-        })
+        let place = self.place_of(key)?;
+        self.call_at(place).map(|call| Found { place, call })
     }
 
     /// The call at a place; a place from 64 on has none.

@@ -40,12 +40,14 @@ impl<P: Pool> Gateway<P> {
         ensures pool_gives_back_what_is_named { (wish : Option Channel) → PoolMoved P.Pool wish (Answer.Step result) self.old.trunk.pool self.new.trunk.pool }
         ensures outcome_settled { state_of P.Pool.state self.new queues.new ≡ settled (state_of P.Pool.state self.old queues.old) (outcome_of decision) }
     {
-        match decision? {
-            Outcome::Reply { exchange, sip } => {
+        // One match, and no `?` before it: that would copy the effect once more.
+        match decision {
+            Err(ground) => Err(Refused::from(ground)),
+            Ok(Outcome::Reply { exchange, sip }) => {
                 queues.send(exchange, sip);
                 Ok(Report::default())
             }
-            Outcome::Change { place, effect } => Ok(self.apply(queues, place, effect, None)),
+            Ok(Outcome::Change { place, effect }) => Ok(self.apply(queues, place, effect, None)),
         }
     }
 

@@ -58,7 +58,8 @@ impl LinkPool {
     fn highest_idle(&self) -> Option<u8>
         ensures idle_and_none_above { HighestIdle result (at self.now.channels) }
     {
-        (1..=31).rev().find(|c| self.state_of(*c).is_idle())
+        // half-open: from the back, an inclusive range makes three tests at each number where this makes one
+        (1..32).rev().find(|c| self.state_of(*c).is_idle())
     }
 
     // Turns channel `c` from one known state to another, if it is in the first.

@@ -2,8 +2,7 @@
 use Rattle.std.proofs.Common.{◌≡◌, ℕ, ◌+◌, ◌-◌, ◌<◌, Bool, true, false, Option, Some, None, sym, ap, ◌∙◌, arith, rules, ◌⊎◌}
 use Rattle.std.specs.Bool.{IsTrue}
 use Rattle.std.specs.Option.{MatchOption, IfSome, IsSomeAnd, option_map}
-use Rattle.std.specs.Range.{range_inclusive_start, range_inclusive_end, range_inclusive_exhausted}
-use Rattle.std.proofs.iter.runs.Sources.{inclusive_listed_back}
+use Rattle.std.proofs.iter.runs.Sources.{range_listed_back}
 use Rattle.std.proofs.lemmas.Grind.{common_steps}
 use borrow.Author.Tests.{tests}
 use Rattle.pools.specs.States.{States, idle}
@@ -36,10 +35,10 @@ returns c =
     -- the same run of the range from its back
     let back = c.rev.ensures.runs run run.seen found.1 in
     let same = back.2 in
-    let listed = inclusive_listed_back back.0 back.0.seen in
-    let lowest : listed.0 ≡ 1 = listed.2 ∙ ap range_inclusive_start back.1 ∙ c.new.ensures.start in
-    let above : listed.1 ≡ 32 = listed.3 ∙ ap (λ b. range_inclusive_end b + 1) back.1 ∙ ap (λ n. n + 1) c.new.ensures.end in
-    let down = (listed.4 (ap range_inclusive_exhausted back.1 ∙ c.new.ensures.exhausted)).0 in
+    let listed = range_listed_back back.0 back.0.seen in
+    let lowest : listed.0 ≡ 1 = listed.2 ∙ ap (λ b. b.start) back.1 in
+    let above : listed.1 ≡ 32 = listed.3 ∙ ap (λ b. b.end) back.1 in
+    let down = listed.4 in
     record {
       idle_and_none_above = highest (at c.args.self.now.channels) (λ k h. grind (arith, common_steps))
           _ (search rules) _ _ (λ x h. search (rules, tests, h)) (λ x h. search (rules, tests, h))
